@@ -1,0 +1,5 @@
+pub mod Kinds
+pub mod Order
+pub mod Rows
+pub mod Least
+pub mod Samples
