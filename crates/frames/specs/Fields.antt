@@ -34,6 +34,10 @@ pub record FrameFields : Type 0 where
   pub w3 : ℕ
   pub w4 : ℕ
 
+-- a frame's numbers, from its kind, its header and its words
+abbrev pub fieldsOf : ℕ → Header → ℕ × ℕ × ℕ × ℕ → FrameFields
+fieldsOf kind h w = record { kind = kind; round = h .0; leader = h .1; count = h .2; w1 = w .0; w2 = w .1; w3 = w .2; w4 = w .3 }
+
 abbrev pub headerOf : FrameFields → Header
 headerOf f = (f .round, f .leader, f .count)
 

@@ -2,6 +2,8 @@
 pub mod entry;
 pub mod frame;
 pub mod kind;
+pub mod make;
+pub mod slot;
 
 pub use entry::Entry;
 pub use entry::Words;

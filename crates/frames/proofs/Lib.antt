@@ -1,0 +1,5 @@
+pub mod Bytes
+pub mod Slots
+pub mod Reading
+pub mod Filling
+pub mod Parsing
