@@ -27,7 +27,7 @@ pub impl Mark for ((u32, u8), (u32, u8, u32)) as VoteMark {
     ghost upTo = { voteUpTo };
 
     fn up_to(self, other: ((u32, u8), (u32, u8, u32))) -> bool {
-        self <= other
+        other >= self
     }
 }
 
