@@ -6,7 +6,7 @@ use std::alloc::AllocError;
 use std::alloc::Global;
 
 // The value of a digit in either case; None for what is no digit.
-pub fn digit_value(text: u8) -> Option<u8>
+pub(crate) fn digit_value(text: u8) -> Option<u8>
     ensures { λ r. ⌜ r ≡ digitValue text ⌝ }
 {
     match text {
@@ -18,7 +18,7 @@ pub fn digit_value(text: u8) -> Option<u8>
 }
 
 // The text of the low four bits.
-pub fn digit_text(value: u8) -> char
+pub(crate) fn digit_text(value: u8) -> char
     ensures { λ r. ⌜ r ≡ digitText (value % 16) ⌝ }
 {
     let low = value % 16;
@@ -30,7 +30,7 @@ pub fn digit_text(value: u8) -> char
 }
 
 // The bytes of a text of digit pairs; None where it is none.
-pub fn read_bytes(heap: Global, text: &str) -> Result<Option<Vec<u8>>, AllocError> {
+pub(crate) fn read_bytes(heap: Global, text: &str) -> Result<Option<Vec<u8>>, AllocError> {
     let mut bytes = Vec::new(heap);
     let mut high = None;
     for digit in text.bytes() {

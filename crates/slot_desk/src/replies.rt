@@ -20,7 +20,7 @@ pub enum Reply {
     NotUnderstood,
 }
 
-pub fn answer(heap: Global, line: &str) -> Result<Reply, AllocError> {
+pub(crate) fn answer(heap: Global, line: &str) -> Result<Reply, AllocError> {
     let served = match read(heap, line)? {
         Request::Write(fields) => written(fields),
         Request::Read(bytes, start) => match usize::try_from(start) {

@@ -13,7 +13,7 @@ pub enum Request {
     None,
 }
 
-pub fn read(heap: Global, line: &str) -> Result<Request, AllocError> {
+pub(crate) fn read(heap: Global, line: &str) -> Result<Request, AllocError> {
     let mut words = line.split_whitespace();
     match words.next() {
         Some("write") => {
