@@ -1,0 +1,4 @@
+pub mod Ranges
+pub mod Bookings
+pub mod Loads
+pub mod Laws

@@ -1,0 +1,4 @@
+pub mod Made
+pub mod Packed
+pub mod Bounded
+pub mod Settled

@@ -1,0 +1,4 @@
+pub mod Ranges
+pub mod Postings
+pub mod Balances
+pub mod Laws

@@ -1,0 +1,3 @@
+pub mod Guard
+pub mod Lone
+pub mod Turn
