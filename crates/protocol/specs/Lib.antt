@@ -1,0 +1,10 @@
+pub mod Rows
+pub mod Rack
+pub mod Voting
+pub mod Booking
+pub mod Taking
+pub mod Exchange
+pub mod Committing
+pub mod Step
+pub mod Numbers
+pub mod Samples

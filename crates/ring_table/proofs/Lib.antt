@@ -1,0 +1,5 @@
+pub mod Indices
+pub mod RingLaws
+pub mod Calls
+pub mod Through
+pub mod Bounds

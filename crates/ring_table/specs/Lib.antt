@@ -1,0 +1,4 @@
+pub mod Index
+pub mod Rings
+pub mod Table
+pub mod Shapes
