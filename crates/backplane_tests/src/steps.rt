@@ -18,7 +18,7 @@ pub enum Step {
     At(Lane, usize, Result<u32, LaneFault>),
 }
 
-pub fn message(count: u32) -> Result<Frame, Refusal> {
+pub(crate) fn message(count: u32) -> Result<Frame, Refusal> {
     Frame::new(1, (0, 1, count), (4, 2, 3, 5))
 }
 
@@ -27,7 +27,7 @@ fn count_of(answer: Result<Frame, LaneFault>) -> Result<u32, LaneFault> {
     Ok(frame.count)
 }
 
-pub fn walk<B: Backplane>(backplane: &mut B, steps: &[Step]) -> Result<(), Fail> {
+pub(crate) fn walk<B: Backplane>(backplane: &mut B, steps: &[Step]) -> Result<(), Fail> {
     for step in steps {
         match *step {
             Step::Send((from, to, lane), count, answer) => {
@@ -51,7 +51,7 @@ pub fn walk<B: Backplane>(backplane: &mut B, steps: &[Step]) -> Result<(), Fail>
 }
 
 // Fills a lane to eight, goes twice round it, and meets every refusal; other lanes stay as they were.
-pub fn eight_to_a_lane() -> [Step; 40] {
+pub(crate) fn eight_to_a_lane() -> [Step; 40] {
     let lane = (1, 2, 0);
     let other = (2, 1, 6);
     [
@@ -98,7 +98,7 @@ pub fn eight_to_a_lane() -> [Step; 40] {
     ]
 }
 
-pub fn missing_lanes() -> [Step; 8] {
+pub(crate) fn missing_lanes() -> [Step; 8] {
     [
         Step::Send((0, 1, 0), 1, Err(LaneFault::NoSuchLane)),
         Step::Send((1, 8, 0), 1, Err(LaneFault::NoSuchLane)),

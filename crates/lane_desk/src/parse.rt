@@ -85,7 +85,7 @@ fn send_of(items: [i128; MOST]) -> Call {
     }
 }
 
-pub fn parse_call(line: &str) -> Option<Call> {
+pub(crate) fn parse_call(line: &str) -> Option<Call> {
     let mut words = line.split_whitespace();
     let name = words.next()?;
     let numbers = parse_numbers(words)?;
@@ -99,7 +99,7 @@ pub fn parse_call(line: &str) -> Option<Call> {
     }
 }
 
-pub fn parse_desk(line: &str) -> Option<Desk> {
+pub(crate) fn parse_desk(line: &str) -> Option<Desk> {
     let mut words = line.split_whitespace();
     let name = words.next()?;
     let numbers = parse_numbers(words)?;

@@ -35,7 +35,7 @@ impl Desk {
         }
     }
 
-    pub fn answer(&mut self, line: &str) -> Reply {
+    pub(crate) fn answer(&mut self, line: &str) -> Reply {
         let Some(request) = read(line) else {
             return Reply::Unreadable;
         };

@@ -19,7 +19,7 @@ pub enum Request {
 }
 
 // None where the line asks nothing of the desk.
-pub fn read(line: &str) -> Option<Request> {
+pub(crate) fn read(line: &str) -> Option<Request> {
     let mut words = line.split_whitespace();
     let machine = words.next()?;
     let verb = words.next()?;

@@ -4,7 +4,7 @@ ghost use Rattle.ring_table.specs.Index.{Indexed};
 use backplane::LaneFault;
 
 // A lane's place in a table of cards × cards × 4 rings.
-pub fn lane_index(cards: u8, from: u8, to: u8, lane: u8) -> Result<usize, LaneFault>
+pub(crate) fn lane_index(cards: u8, from: u8, to: u8, lane: u8) -> Result<usize, LaneFault>
     requires { ⌜ cards ≤ 7 ⌝ }
     ensures { λ r. ⌜ Indexed cards from to lane r ⌝ }
 {

@@ -15,7 +15,7 @@ pub struct Store<'a> {
 }
 
 impl Store<'_> {
-    pub fn write(&mut self, slot: usize, frame: Frame)
+    pub(crate) fn write(&mut self, slot: usize, frame: Frame)
         requires { ⌜ slot * 48 + 48 ≤ length (now (now self .bytes)) ⌝ }
         ensures { λ _. ⌜ now (now (self .exit) .bytes) ≡ wroteAt frame (now (now (self .entry) .bytes)) (slot * 48) ⌝ }
     {
@@ -23,7 +23,7 @@ impl Store<'_> {
         let _ = write_slot(&mut self.bytes[..], slot * SLOT, frame);
     }
 
-    pub fn read(&self, slot: usize) -> Result<Frame, Refusal>
+    pub(crate) fn read(&self, slot: usize) -> Result<Frame, Refusal>
         requires { ⌜ slot * 48 + 48 ≤ length (now (now self .bytes)) ⌝ }
         ensures { λ r. ⌜ r ≡ readAt (now (now (self .entry) .bytes)) (slot * 48) ⌝ }
     {
