@@ -1,15 +1,13 @@
 // Drives a backplane by a script, a line a call, and prints each answer.
-mod call;
 mod parse;
 
 use backplane::Backplane;
-use call::Answer;
-use call::AnswerDisplay;
-use call::Call;
-use call::apply;
 use frame_box::FrameBox;
 use frame_box::FrameBoxBackplane;
 use frames::slot::SLOT;
+use lane_calls::Answer;
+use lane_calls::AnswerDisplay;
+use lane_calls::apply;
 use parse::Desk;
 use parse::parse_call;
 use parse::parse_desk;

@@ -1,7 +1,7 @@
 // A line of a script as a call, and a section's first line as the backplane that it is for.
-use crate::call::Call;
-use crate::call::Lane;
 use frames::Frame;
+use lane_calls::Call;
+use lane_calls::Lane;
 use numerals::number;
 use refusals::Refusal;
 use std::str::SplitWhitespace;

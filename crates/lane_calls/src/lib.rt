@@ -1,6 +1,6 @@
-// A call on a backplane, and its answer.
+// A call on a backplane as a value, and its answer.
 ghost use mathlib.Core.Path.{_≡_};
-ghost use Rattle.lane_desk.specs.Calls.{callOut, callLanes, countAnswer, frameAnswer, doneAnswer, refusedAnswer};
+ghost use Rattle.lane_calls.specs.Calls.{callOut, callLanes, countAnswer, frameAnswer, doneAnswer, refusedAnswer};
 use backplane::Backplane;
 use backplane::LaneFault;
 use frames::Frame;

@@ -7,10 +7,10 @@ use Rattle.frames.specs.declared.frame.Frame.{Frame}
 use Rattle.backplane.specs.declared.fault.LaneFault.{LaneFault}
 use Rattle.backplane.specs.Faults.{faultRefusal}
 use Rattle.backplane.specs.Lanes.{Lanes, waitingOut, frameOut, sendOut, sendLanes, dropOut, dropLanes}
-use Rattle.lane_desk.specs.declared.call.Answer.{Answer}
-use Rattle.lane_desk.specs.declared.call.Answer.the-variants.{Done, Count, Shown, Refused}
-use Rattle.lane_desk.specs.declared.call.Call.{Call}
-use Rattle.lane_desk.specs.declared.call.Call.the-variants.{Send, SendRefused, Drop, Waiting, At}
+use Rattle.lane_calls.specs.declared.Answer.{Answer}
+use Rattle.lane_calls.specs.declared.Answer.the-variants.{Done, Count, Shown, Refused}
+use Rattle.lane_calls.specs.declared.Call.{Call}
+use Rattle.lane_calls.specs.declared.Call.the-variants.{Send, SendRefused, Drop, Waiting, At}
 
 abbrev pub doneAnswer : Result (Unit {0}) LaneFault → Answer
 doneAnswer (Ok x) = Done
