@@ -36,8 +36,8 @@ impl Mark for ((u32, u8), (u32, u8, u32)) {
 
 // The largest of a first row and the others.
 pub fn largest<T: Mark>(first: T, rows: &[T]) -> T
-    ensures value { result ≡ largest_of up_to first rows.now }
-    ensures largest { Largest up_to (first ∷ rows.now) result }
+    ensures value { result ≡ largest_of T.up_to first rows.now }
+    ensures largest { Largest T.up_to (first ∷ rows.now) result }
 {
     let mut most = first;
     for row in rows {
@@ -50,7 +50,7 @@ pub fn largest<T: Mark>(first: T, rows: &[T]) -> T
 
 // How many rows lie from `low` to `high`, ends counted.
 pub fn count_between<T: Mark>(low: T, high: T, rows: &[T]) -> usize
-    ensures { result ≡ count_between up_to low high rows.now }
+    ensures { result ≡ count_between T.up_to low high rows.now }
 {
     let mut count = 0;
     for row in rows {

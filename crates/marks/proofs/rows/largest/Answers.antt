@@ -3,15 +3,15 @@ use Rattle.std.proofs.lemmas.List.{at_drop_all}
 use Rattle.marks.specs.Rows.{largest_of, Largest}
 use Rattle.marks.proofs.RowLoops.{largest_more, is_largest}
 use Rattle.marks.proofs.rows.largest.Goals as goal
-use Rattle.marks.proofs.rows.largest.Goals.{then-up-to, else-up-to}
+use Rattle.marks.proofs.rows.largest.Goals.{then-up_to, else-up_to}
 
 pub loop-row-preserved : goal.loop-row-preserved
 loop-row-preserved g c =
-    let step = largest_more g.T.Mark.up_to c.loop-row.most c.if-up-to.most c.args.rows.now c.loop-row.row-index c.row-item.result in
+    let step = largest_more g.T.Mark.up_to c.loop-row.most c.if-up_to.most c.args.rows.now c.loop-row.row-index c.row-item.result in
     let within = c.loop-row-test.true in
-    elim c.if-up-to.branch [
-      | then-up-to w ↦ step true _ within c.row-item.is w.if-up-to.ensures w.most-is c.loop-row.invariant
-      | else-up-to w ↦ step false _ within c.row-item.is w.if-up-to.ensures w.most-is c.loop-row.invariant
+    elim c.if-up_to.branch [
+      | then-up_to w ↦ step true _ within c.row-item.is w.if-up_to.ensures w.most-is c.loop-row.invariant
+      | else-up_to w ↦ step false _ within c.row-item.is w.if-up_to.ensures w.most-is c.loop-row.invariant
     ]
 
 pub returns : goal.returns
