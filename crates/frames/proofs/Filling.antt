@@ -1,5 +1,5 @@
 -- What the writer's loop keeps: the fields before i stand in the slot, and zeros follow them.
-use Rattle.std.proofs.Common.{◌≡◌, ℕ, zero, suc, ◌+◌, ◌-◌, ◌*◌, ◌^◌, ◌<◌, ◌≤◌, Bool, true, false, cond, eqb, List, [], ◌∷◌, ◌++◌, length, get_or, take, drop, set, replicate, sym, refl, ap, ◌∙◌, subst, append_assoc, append-nil, mul_assoc, mul_comm, one-mul, pow-suc, mul-zero, mul-one, mul-add, add-one, arith, length-append, length-drop, length-take}
+use Rattle.std.proofs.Common.{◌≡◌, ℕ, zero, suc, ◌+◌, ◌-◌, ◌*◌, ◌^◌, ◌<◌, ◌≤◌, Bool, true, false, cond, eqb, List, [], ◌∷◌, ◌++◌, length, get_or, take, drop, set, replicate, sym, refl, ap, ◌∙◌, subst, append_assoc, append-nil, mul_assoc, one-mul, pow-suc, mul-zero, mul-one, mul-add, add-one, arith, length-append}
 use lib.Lanes.{digits_l}
 use lib.ListN.{length-replicate}
 use Rattle.std.proofs.lemmas.List.{drop_more, take_at, drop_at, drop-drop, take-append-drop, length-take-le, replicate-append-replicate, drop-replicate, drop-append-le, drop_all}

@@ -1,14 +1,13 @@
 -- What the reader's loop keeps: the fields before i are read, and what is left gives the others.
-use Rattle.std.proofs.Common.{◌≡◌, ℕ, zero, suc, ◌+◌, ◌-◌, ◌*◌, ◌/◌, ◌%◌, ◌^◌, ◌<◌, ◌≤◌, Bool, true, false, cond, not, ◌&&◌, eqb, List, [], ◌∷◌, ◌++◌, length, get_or, take, drop, set, replicate, sym, refl, ap, ◌∙◌, subst, append_assoc, append-nil, add-one, arith, length-append, length-drop, length-set}
+use Rattle.std.proofs.Common.{◌≡◌, ℕ, zero, suc, ◌+◌, ◌-◌, ◌/◌, ◌%◌, ◌<◌, ◌≤◌, true, false, not, ◌&&◌, eqb, List, [], ◌∷◌, ◌++◌, length, get_or, take, drop, set, replicate, sym, refl, ap, ◌∙◌, subst, append_assoc, append-nil, arith, length-append, length-drop, length-set}
 use lib.Lanes.{number_l, Each1}
-use lib.ListN.{length-replicate}
-use Rattle.std.proofs.lemmas.List.{drop_more, take_more, take_more_set, drop-drop, drop_all, take_all, drop-set-lt, get_or-drop, same_lists, get_or-replicate}
+use Rattle.std.proofs.lemmas.List.{drop_more, take_more, take_more_set, drop-drop, take_all, drop-set-lt, get_or-drop}
 use Rattle.std.proofs.lemmas.Simd.{Each1-get_or}
 use Rattle.std.proofs.lemmas.Bool.{eq-eqb, ne_eqb, true≢false}
 use Rattle.frames.specs.Slot.{bit_map, standing, Fits, field_widths, list_slot}
 use Rattle.frames.specs.Made.{field, after, fields}
-use Rattle.frames.proofs.Slots.{honest, tail, sound, back, Back, forth, Forth, length_standing}
-use Rattle.frames.proofs.Filling.{reach, Width, width}
+use Rattle.frames.proofs.Slots.{honest, tail, sound, back, forth, Forth}
+use Rattle.frames.proofs.Filling.{reach, width}
 
 pub record Read (i at left : ℕ) (values slot : List ℕ) : Type 0 where
   pub told : take i values ++ fields (drop i field_widths) left (drop at slot) ≡ fields field_widths (get_or slot 0 0) (drop 1 slot)

@@ -1,9 +1,8 @@
 -- Every frame has one slot, and exactly those slots are read back as frames.
-use Rattle.std.proofs.Common.{◌≡◌, ℕ, zero, suc, ◌+◌, ◌-◌, ◌^◌, ◌<◌, ◌≤◌, Bool, true, false, cond, not, ◌&&◌, ◌||◌, eqb, ltb, leb, ◌⊎◌, List, [], ◌∷◌, ◌++◌, length, get_or, take, drop, replicate, Ok, Err, Result, sym, refl, ap, ◌∙◌, subst, inl, inr, ⊎_elim, arith, lit<, length-append}
+use Rattle.std.proofs.Common.{◌≡◌, ℕ, ◌-◌, ◌<◌, Bool, true, false, cond, ◌&&◌, ◌||◌, eqb, leb, ◌⊎◌, List, [], ◌∷◌, length, replicate, Ok, Err, Result, sym, refl, ap, ◌∙◌, subst, inl, inr, ⊎_elim, arith, lit<}
 use mathlib.Core.Bool.{Bool-set}
 use mathlib.Core.HLevel.{is_prop→PathP}
-use lib.ListN.{length-replicate}
-use Rattle.std.proofs.lemmas.Bool.{eqb-true, eq-eqb, and_parts, or_cases, true≢false, false≢true, cases_bool}
+use Rattle.std.proofs.lemmas.Bool.{eqb-true, eq-eqb, and_parts, or_cases, false≢true}
 use Rattle.std.proofs.lemmas.Bool.Decides.{nat_tests}
 use Rattle.refusals.specs.declared.Refusal.{Refusal}
 use Rattle.refusals.specs.declared.Refusal.TheVariants.{OutOfRange, Malformed}
@@ -14,8 +13,8 @@ use Rattle.frames.specs.declared.kind.Kind.TheVariants.{Message, DiffHead, DiffE
 use Rattle.frames.specs.Kinds.{kind_number}
 use Rattle.frames.specs.Fields.{FrameFields, is_entry, is_entry_header, is_frame, carries_entry, carries_diff, carries_header, carries_vote}
 use Rattle.frames.specs.Views.{entry_fields, frame_fields}
-use Rattle.frames.specs.Slot.{field_list, field_widths, Fits, bit_map, standing, list_slot, slot_of}
-use Rattle.frames.specs.Made.{kind_at, with_kind, frame_if, frame_from, entry_if, entry_from, fields, from_list, told, same_bytes, read_back, slot, SlotsAndFrames}
+use Rattle.frames.specs.Slot.{field_list, field_widths, Fits, standing, list_slot, slot_of}
+use Rattle.frames.specs.Made.{kind_at, with_kind, frame_if, frame_from, entry_if, entry_from, from_list, told, same_bytes, read_back, slot, SlotsAndFrames}
 use Rattle.frames.proofs.Slots.{back, length_slot}
 
 -- the bounds of a frame's fields

@@ -1,5 +1,5 @@
 -- What an entry and a frame are, over plain numbers.
-use Rattle.std.specs.Prelude.{ℕ, Bool, true, false, ◌&&◌, ◌||◌, ◌==◌, nat_le, nat_lt}
+use Rattle.std.specs.Prelude.{ℕ, Bool, ◌&&◌, ◌||◌, ◌==◌, nat_le, nat_lt}
 use Rattle.marks.specs.Kinds.{Epoch, Header, is_epoch, is_led_epoch, is_header}
 
 -- three words of a payload

@@ -1,5 +1,5 @@
 -- A message's slot, byte by byte.
-use Rattle.std.specs.Prelude.{◌≡◌, ℕ, List, [], ◌∷◌, ◌++◌, replicate}
+use Rattle.std.specs.Prelude.{◌≡◌, ◌∷◌, replicate}
 use Rattle.frames.specs.Fields.{fields_of}
 use Rattle.frames.specs.Slot.{slot_of}
 

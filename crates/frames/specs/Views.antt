@@ -1,5 +1,4 @@
 -- The plain numbers of an entry and of a frame.
-use Rattle.std.specs.Prelude.{ℕ}
 use Rattle.frames.specs.declared.entry.Entry.{Entry}
 use Rattle.frames.specs.declared.frame.Frame.{Frame}
 use Rattle.frames.specs.Kinds.{kind_number}

@@ -1,4 +1,6 @@
 // Entries, frames, and the 48 bytes of a frame's slot.
+#![tactic(auto)]
+
 pub mod entry;
 pub mod frame;
 pub mod kind;

@@ -1,8 +1,8 @@
 -- Headers and votes are in a total order: one step for each number that is compared.
-use Rattle.std.specs.Prelude.{◌≡◌, ℕ, Bool, true, false, ◌&&◌, ◌||◌, ◌⊎◌, nat_le, refl}
-use Rattle.std.proofs.Common.{arith, ap, inl, inr}
+use Rattle.std.specs.Prelude.{◌≡◌, ℕ, Bool, true, ◌⊎◌, nat_le}
+use Rattle.std.proofs.Common.{arith}
 use Rattle.std.proofs.lemmas.Bool.Decides.{nat_tests}
-use Rattle.marks.specs.Kinds.{Epoch, Header, Vote}
+use Rattle.marks.specs.Kinds.{Header, Vote}
 use Rattle.marks.specs.Order.{TotalOrder, left_first, header_up_to, vote_up_to}
 
 left_compares : (x y : ℕ) (r s : Bool) → (r ≡ true) ⊎ (s ≡ true) → (left_first x y r ≡ true) ⊎ (left_first y x s ≡ true)

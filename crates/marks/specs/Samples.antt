@@ -1,6 +1,5 @@
 -- Small values that fix how the definitions are read.
 use Rattle.std.specs.Prelude.{◌≡◌, Ok, Err}
-use Rattle.refusals.specs.declared.Refusal.{Refusal}
 use Rattle.refusals.specs.declared.Refusal.TheVariants.{UsedUp}
 use Rattle.marks.specs.Least.{least_epoch}
 

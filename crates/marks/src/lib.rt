@@ -1,4 +1,6 @@
 // Epochs, headers and votes: tuples of numbers, compared left to right.
+#![tactic(auto)]
+
 ghost use Rattle.std.specs.Prelude.{◌≡◌};
 ghost use Rattle.marks.specs.Kinds.{is_epoch, is_header, is_vote};
 ghost use Rattle.marks.specs.Least.{least_epoch, LeastLedAbove};

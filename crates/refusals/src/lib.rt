@@ -1,4 +1,6 @@
 // Why a call is refused. Every layer's faults lead to one of these, so a number has one meaning in the whole rack.
+#![tactic(auto)]
+
 ghost use Rattle.std.specs.Prelude.{◌≡◌};
 ghost use Rattle.refusals.specs.Numbers.{refusal_number};
 

@@ -11,7 +11,7 @@ width first second either = ⊎_elim (λ e. first ∙ ap (λ i. get_or field_wid
 pub returns-in-0 : goal.returns-in-0
 returns-in-0 c = λ h.
     let bs = c.args.bytes.now in
-    let each = Each1-from_get_or (λ b. b < 256) bs 0 (λ i h. (c.type-inv.bytes i).fits) in
+    let each = Each1-from_get_or (λ b. b < 256) bs 0 (λ i h. (c.type_inv.bytes i).fits) in
     ap (λ v. v % 256) c.load-value.ensures
     ∙ low_bytes bs c.args.at 1 each (omega arith)
     ∙ ap (λ w. number_l 256 (take w (drop c.args.at bs))) (width {a = 0} {b = 2} refl refl c.in-0.is)
@@ -19,7 +19,7 @@ returns-in-0 c = λ h.
 pub returns-in-1 : goal.returns-in-1
 returns-in-1 c = λ h.
     let bs = c.args.bytes.now in
-    let each = Each1-from_get_or (λ b. b < 256) bs 0 (λ i h. (c.type-inv.bytes i).fits) in
+    let each = Each1-from_get_or (λ b. b < 256) bs 0 (λ i h. (c.type_inv.bytes i).fits) in
     ap (λ v. v % 4294967296) c.load-value.ensures
     ∙ low_bytes bs c.args.at 4 each (omega arith)
     ∙ ap (λ w. number_l 256 (take w (drop c.args.at bs))) (width {a = 1} {b = 3} refl refl c.in-1.is)

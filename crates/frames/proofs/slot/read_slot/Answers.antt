@@ -1,9 +1,8 @@
-use Rattle.std.proofs.Common.{◌≡◌, ℕ, ◌+◌, ◌-◌, Bool, true, false, cond, List, take, drop, Ok, Err, sym, ap, ◌∙◌, subst, arith}
+use Rattle.std.proofs.Common.{◌≡◌, ℕ, ◌+◌, ◌-◌, true, List, take, drop, Err, sym, ap, ◌∙◌, arith}
 use Rattle.std.proofs.lemmas.Result.{err_from_is_err_and}
 use Rattle.std.proofs.lemmas.Bool.{cond-true, cond-false}
-use Rattle.refusals.specs.declared.Refusal.TheVariants.{Malformed}
 use Rattle.frames.specs.Slot.{Fits, field_widths, list_slot}
-use Rattle.frames.specs.Made.{slot_fits, read_at, read_back, from_list, frame_from}
+use Rattle.frames.specs.Made.{slot_fits, read_at, read_back}
 use Rattle.frames.proofs.Reading.{slots_and_frames, read_refused, read_fields}
 use Rattle.frames.proofs.slot.read_slot.Goals as goal
 
@@ -11,19 +10,19 @@ use Rattle.frames.proofs.slot.read_slot.Goals as goal
 inside : (bytes : List ℕ) (start n : ℕ) → true ≡ slot_fits bytes start → n ≡ 48 → read_back (take n (drop start bytes)) ≡ read_at bytes start
 inside bytes start n fits e = ap (λ k. read_back (take k (drop start bytes))) e ∙ sym (cond-true (slot_fits bytes start) _ _ (sym fits))
 
-pub returns-then-not-slot-fits : goal.returns-then-not-slot-fits
-returns-then-not-slot-fits c = record {
-  value = sym (cond-false (slot_fits c.args.bytes.now c.args.start) _ _ (sym c.if-not-slot-fits.ensures));
+pub returns-then-not-slot_fits : goal.returns-then-not-slot_fits
+returns-then-not-slot_fits c = record {
+  value = sym (cond-false (slot_fits c.args.bytes.now c.args.start) _ _ (sym c.if-not-slot_fits.ensures));
   slots = slots_and_frames;
 }
 
-pub returns-in-err-values : goal.returns-in-err-values
-returns-in-err-values c =
-    let p = err_from_is_err_and c.from-residual.result c.from-residual.ensures.1 in
-    let why = c.in-err-values.ensures in
+pub returns-in_err-values : goal.returns-in_err-values
+returns-in_err-values c =
+    let p = err_from_is_err_and c.from_residual.result c.from_residual.ensures.1 in
+    let why = c.in_err-values.ensures in
     let size : c.args.start + 48 - c.args.start ≡ 48 = omega arith in
     record {
-      value = p.1 ∙ ap Err (p.2 ∙ why.0) ∙ sym (read_refused (take (c.args.start + 48 - c.args.start) (drop c.args.start c.args.bytes.now)) why.1) ∙ inside c.args.bytes.now c.args.start _ c.if-not-slot-fits.ensures size;
+      value = p.1 ∙ ap Err (p.2 ∙ why.0) ∙ sym (read_refused (take (c.args.start + 48 - c.args.start) (drop c.args.start c.args.bytes.now)) why.1) ∙ inside c.args.bytes.now c.args.start _ c.if-not-slot_fits.ensures size;
       slots = slots_and_frames;
     }
 
@@ -31,8 +30,8 @@ pub returns : goal.returns
 returns c =
     let size : c.args.start + 48 - c.args.start ≡ 48 = omega arith in
     let part = take (c.args.start + 48 - c.args.start) (drop c.args.start c.args.bytes.now) in
-    let found : (list_slot c.in-ok-values.values ≡ part) × Fits field_widths c.in-ok-values.values = c.in-ok-values.ensures in
+    let found : (list_slot c.in_ok-values.values ≡ part) × Fits field_widths c.in_ok-values.values = c.in_ok-values.ensures in
     record {
-      value = c.new.ensures ∙ sym (read_fields part c.in-ok-values.values found.0 found.1) ∙ inside c.args.bytes.now c.args.start _ c.if-not-slot-fits.ensures size;
+      value = c.new.ensures ∙ sym (read_fields part c.in_ok-values.values found.0 found.1) ∙ inside c.args.bytes.now c.args.start _ c.if-not-slot_fits.ensures size;
       slots = slots_and_frames;
     }

@@ -6,5 +6,5 @@ use Rattle.frames.proofs.slot.store.Goals as goal
 pub returns : goal.returns
 returns c =
     put_at c.args.at _ 8 c.args.out.now _ (digits_l 256 8 c.args.value)
-    (c.copy-from-slice.ensures.after ∙ c.to-le-bytes.ensures ∙ eight_bytes c.args.value)
+    (c.copy_from_slice.ensures.after ∙ c.to_le_bytes.ensures ∙ eight_bytes c.args.value)
     (omega arith)

@@ -1,4 +1,4 @@
-use Rattle.std.proofs.Common.{◌≡◌, ℕ, true, cond, List, ◌++◌, sym, ap, ◌∙◌}
+use Rattle.std.proofs.Common.{◌≡◌, true, sym, ◌∙◌}
 use Rattle.std.proofs.lemmas.Bool.{leb-true, cond-true}
 use Rattle.frames.specs.Made.{slot, slot_fits}
 use Rattle.frames.proofs.Bytes.{put_rest}
@@ -6,7 +6,7 @@ use Rattle.frames.proofs.slot.write_slot.Goals as goal
 
 pub returns : goal.returns
 returns c =
-    let fits : slot_fits c.args.bytes.now c.args.start ≡ true = sym c.if-not-slot-fits.ensures in
+    let fits : slot_fits c.args.bytes.now c.args.start ≡ true = sym c.if-not-slot_fits.ensures in
     record {
       answer = sym (cond-true (slot_fits c.args.bytes.now c.args.start) _ _ fits);
       bytes =

@@ -1,4 +1,4 @@
-use Rattle.std.proofs.Common.{◌≡◌, ℕ, sym, ap, rules}
+use Rattle.std.proofs.Common.{◌≡◌, sym, ap, rules}
 use Rattle.frames.specs.Kinds.{kind_number}
 use Rattle.frames.specs.Fields.{fields_of}
 use Rattle.frames.proofs.Reading.{made_from}
