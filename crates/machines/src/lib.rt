@@ -1,4 +1,6 @@
 // What every machine of the rack is, and the machine that stands alone.
+#![tactic(auto)]
+
 mod meaning;
 mod runs;
 mod turns;

@@ -1,7 +1,6 @@
-use Rattle.std.proofs.Common.{◌≡◌, List, sym, ap, ◌∙◌}
+use Rattle.std.proofs.Common.{sym, ◌∙◌}
 use Rattle.std.proofs.lemmas.List.{at_drop_more, at_drop_all}
 use Rattle.machines.specs.Lone.{carried}
-use Rattle.machines.specs.declared.runs.Item.{Item}
 use Rattle.machines.proofs.runs.lone.Goals as goal
 
 pub loop-item-preserved : goal.loop-item-preserved
