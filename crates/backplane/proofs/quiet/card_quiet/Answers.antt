@@ -1,5 +1,5 @@
-use Rattle.std.proofs.Common.{◌≡◌, true, sym, ◌∙◌, subst, arith}
-use Rattle.backplane.specs.Quiet.{all_up_to, pair_quiet}
+use Rattle.std.proofs.Common.{sym, ◌∙◌}
+use Rattle.backplane.specs.Quiet.{pair_quiet}
 use Rattle.backplane.proofs.Silence.{all_more, all_fails}
 use Rattle.backplane.proofs.quiet.card_quiet.Goals as goal
 

@@ -1,4 +1,4 @@
-use Rattle.std.proofs.Common.{◌≡◌, ap, ◌∙◌}
+use Rattle.std.proofs.Common.{ap, ◌∙◌}
 use Rattle.backplane.specs.Quiet.{all_quiet}
 use Rattle.backplane.proofs.Silence.{quiet_means}
 use Rattle.backplane.proofs.quiet.is_quiet.Goals as goal

@@ -32,7 +32,7 @@ loop-frame-preserved g c =
 pub returns-in_err-have : goal.returns-in_err-have
 returns-in_err-have g c =
     let s = c.args.backplane.now in
-    let p = err_from_is_err_and c.from-residual.result c.from-residual.ensures.1 in
+    let p = err_from_is_err_and c.from_residual.result c.from_residual.ensures.1 in
     let no = all_no_lane (g.B.Backplane.count s) (g.B.Backplane.room s) (g.B.Backplane.lanes s) c.args.from c.args.to c.args.lane c.args.frames.now c.in_err-have.field-0.0 c.in_err-have.ensures in
     record { answer = p.1 ∙ ap Err p.2 ∙ no.0; lanes = no.1; count = refl; room = refl }
 

@@ -14,5 +14,5 @@ unreachable-requires c =
 
 pub returns-in_err-slot : goal.returns-in_err-slot
 returns-in_err-slot c =
-    let p = err_from_is_err_and c.from-residual.result c.from-residual.ensures.1 in
+    let p = err_from_is_err_and c.from_residual.result c.from_residual.ensures.1 in
     p.1 ∙ ap Err p.2 ∙ none_waiting c.args.self.now.table.cards c.args.self.now.table.room (slots c.args.self.now.table) c.args.self.now.store.bytes.now c.args.from c.args.to c.args.lane c.args.position c.in_err-slot.field-0.0 c.in_err-slot.ensures.value

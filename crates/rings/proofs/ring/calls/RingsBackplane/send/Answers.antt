@@ -40,6 +40,6 @@ returns c =
 pub returns-in_err-slot : goal.returns-in_err-slot
 returns-in_err-slot c =
     let out = c.in_err-slot.ensures in
-    let p = err_from_is_err_and c.from-residual.result c.from-residual.ensures.1 in
+    let p = err_from_is_err_and c.from_residual.result c.from_residual.ensures.1 in
     let kept = kept_lanes c.args.self.now.table.cards c.args.self.now.table.room (slots c.args.self.now.table) c.args.self.now.store.bytes.now c.args.from c.args.to c.args.lane (slots c.enter.new.self) c.in_err-slot.field-0.0 out.entered c.args.frame in
     record { answer = p.1 ∙ ap Err p.2 ∙ kept.0; lanes = kept.1; count = out.cards; room = out.room }
