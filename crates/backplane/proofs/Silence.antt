@@ -1,6 +1,6 @@
 -- Empty lanes, one by one and all together.
 use Rattle.std.proofs.Common.{◌≡◌, ℕ, zero, suc, ◌+◌, ◌<◌, ◌≤◌, Bool, true, false, cond, not, ◌&&◌, ◌||◌, eqb, leb, List, [], ◌∷◌, length, Ok, Err, MatchBool, Result, sym, refl, ap, ◌∙◌, subst, ⊎_elim, add-one, arith}
-use Rattle.std.proofs.lemmas.Bool.{eqb-true, leb-true, and_parts, and_from, and_left, and_right, cases_lt, eq-eqb}
+use Rattle.std.proofs.lemmas.Bool.{eqb-true, leb-true, and_parts, and_from, and_left, and_right, cases_lt}
 use Rattle.backplane.specs.declared.fault.LaneFault.{LaneFault}
 use Rattle.backplane.specs.declared.fault.LaneFault.TheVariants.{NoSuchLane}
 use Rattle.backplane.specs.Lanes.{LanesOf, is_card, is_lane_number, is_lane, empty_lanes, waiting_out}

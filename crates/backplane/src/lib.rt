@@ -1,4 +1,6 @@
 // What a backplane means, and what can be done over any of them.
+#![tactic(auto)]
+
 pub mod fault;
 pub mod lanes;
 mod quiet;

@@ -1,4 +1,6 @@
 // A call on a backplane as a value, and its answer.
+#![tactic(auto)]
+
 ghost use Rattle.std.specs.Prelude.{◌≡◌};
 ghost use Rattle.lane_calls.specs.Calls.{call_out, call_lanes, count_answer, frame_answer, done_answer, refused_answer};
 

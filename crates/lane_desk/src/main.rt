@@ -1,4 +1,6 @@
 // Drives a backplane by a script, a line a call, and prints each answer.
+#![tactic(auto)]
+
 mod parse;
 
 use backplane::Backplane;

@@ -1,5 +1,7 @@
 // Numbers on a line of text. Any size is a number; those past 64 bits become the nearest number past them, which no type
 // of the rack holds, so that a range is refused as a range and never as a line that cannot be read.
+#![tactic(auto)]
+
 ghost use Rattle.std.specs.Prelude.{◌≡◌, ◌≤◌, IfSome};
 ghost use Rattle.numerals.specs.Decimal.{is_digit, magnitude_in, number_in};
 

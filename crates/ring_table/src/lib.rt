@@ -1,4 +1,6 @@
 // Which slot each frame of a lane takes: a ring of slots for each lane, whatever the slots hold.
+#![tactic(auto)]
+
 mod index;
 pub mod shape;
 pub mod table;

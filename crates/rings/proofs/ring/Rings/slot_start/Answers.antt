@@ -11,22 +11,22 @@ use Rattle.rings.proofs.ring.Rings.slot_start.Goals as goal
 pub overflow-mul-result : goal.overflow-mul-result
 overflow-mul-result c =
     let s = c.args.self.now.table in
-    omega (arith, slots_most s.cards s.room s.few s.most, c.in-ok-slot.ensures.below)
+    omega (arith, slots_most s.cards s.room s.few s.most, c.in_ok-slot.ensures.below)
 
 pub returns : goal.returns
 returns c =
-    let found = c.in-ok-slot.ensures in
+    let found = c.in_ok-slot.ensures in
     record {
       value = ap (held (λ j. j * 48)) found.value;
-      bytes = waiting_bytes c.args.self.now.table.cards c.args.self.now.table.room (slots c.args.self.now.table) c.args.self.now.store.bytes.now c.args.from c.args.to c.args.lane c.args.position c.in-ok-slot.slot c.args.self.now.frames c.args.self.now.long found.below found.value;
+      bytes = waiting_bytes c.args.self.now.table.cards c.args.self.now.table.room (slots c.args.self.now.table) c.args.self.now.store.bytes.now c.args.from c.args.to c.args.lane c.args.position c.in_ok-slot.slot c.args.self.now.frames c.args.self.now.long found.below found.value;
     }
 
-pub returns-in-err-slot : goal.returns-in-err-slot
-returns-in-err-slot c =
-    let p = err_from_is_err_and c.from-residual.result c.from-residual.ensures.1 in
+pub returns-in_err-slot : goal.returns-in_err-slot
+returns-in_err-slot c =
+    let p = err_from_is_err_and c.from_residual.result c.from_residual.ensures.1 in
     let out = p.1 ∙ ap Err p.2 in
-    let found = c.in-err-slot.ensures in
-    let none = none_waiting c.args.self.now.table.cards c.args.self.now.table.room (slots c.args.self.now.table) c.args.self.now.store.bytes.now c.args.from c.args.to c.args.lane c.args.position c.in-err-slot.field-0.0 found.value in
+    let found = c.in_err-slot.ensures in
+    let none = none_waiting c.args.self.now.table.cards c.args.self.now.table.room (slots c.args.self.now.table) c.args.self.now.store.bytes.now c.args.from c.args.to c.args.lane c.args.position c.in_err-slot.field-0.0 found.value in
     record {
       value = out ∙ ap (held (λ j. j * 48)) found.value;
       bytes = subst (SlotAt c.args.self.now.table.cards (rings_lanes c.args.self.now) (rings_bytes c.args.self.now) c.args.from c.args.to c.args.lane c.args.position) (sym out) (sym none);

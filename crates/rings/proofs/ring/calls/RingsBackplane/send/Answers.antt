@@ -9,18 +9,18 @@ use Rattle.rings.proofs.ring.calls.RingsBackplane.send.Goals as goal
 
 pub invariant-of-self : goal.invariant-of-self
 invariant-of-self c =
-    let out = c.in-err-slot.ensures in (
+    let out = c.in_err-slot.ensures in (
       long_kept c.args.self.now.table.cards c.args.self.now.table.room c.enter.new.self.cards c.enter.new.self.room (length c.args.self.now.store.bytes.now) out.cards out.room c.args.self.now.long,
-      (kept_frames c.args.self.now.table.cards c.args.self.now.table.room (slots c.args.self.now.table) c.args.self.now.store.bytes.now c.args.from c.args.to c.args.lane (slots c.enter.new.self) c.in-err-slot.field-0.0 out.entered c.args.self.now.frames, tt),
+      (kept_frames c.args.self.now.table.cards c.args.self.now.table.room (slots c.args.self.now.table) c.args.self.now.store.bytes.now c.args.from c.args.to c.args.lane (slots c.enter.new.self) c.in_err-slot.field-0.0 out.entered c.args.self.now.frames, tt),
     )
 
 pub invariant-of-self-2 : goal.invariant-of-self-2
 invariant-of-self-2 c =
-    let out = c.in-ok-slot.ensures in
+    let out = c.in_ok-slot.ensures in
     let n = c.args.self.now.table.cards in
     let room = c.args.self.now.table.room in
-    let long = sent_long c.args.self.now.table.cards c.args.self.now.table.room (slots c.args.self.now.table) c.args.self.now.store.bytes.now c.args.from c.args.to c.args.lane (slots c.enter.new.self) c.in-ok-slot.slot c.args.frame c.args.self.now.long out.entered in
-    let frames = sent_frames c.args.self.now.table.cards c.args.self.now.table.room (slots c.args.self.now.table) c.args.self.now.store.bytes.now c.args.from c.args.to c.args.lane (slots c.enter.new.self) c.in-ok-slot.slot c.args.frame c.args.self.now.long out.entered c.args.self.now.frames in
+    let long = sent_long c.args.self.now.table.cards c.args.self.now.table.room (slots c.args.self.now.table) c.args.self.now.store.bytes.now c.args.from c.args.to c.args.lane (slots c.enter.new.self) c.in_ok-slot.slot c.args.frame c.args.self.now.long out.entered in
+    let frames = sent_frames c.args.self.now.table.cards c.args.self.now.table.room (slots c.args.self.now.table) c.args.self.now.store.bytes.now c.args.from c.args.to c.args.lane (slots c.enter.new.self) c.in_ok-slot.slot c.args.frame c.args.self.now.long out.entered c.args.self.now.frames in
     let now_long = subst (λ (bs : List ℕ). slots_of n room * 48 ≤ length bs) (sym c.write.ensures) long in (
       long_kept c.args.self.now.table.cards c.args.self.now.table.room c.enter.new.self.cards c.enter.new.self.room (length c.write.new.self.bytes.now) out.cards out.room now_long,
       (subst (λ (bs : List ℕ). (f t l : ℕ) → every (through (is_frame_at bs) (slots c.enter.new.self) f t l) ≡ true) (sym c.write.ensures) frames, tt),
@@ -28,8 +28,8 @@ invariant-of-self-2 c =
 
 pub returns : goal.returns
 returns c =
-    let out = c.in-ok-slot.ensures in
-    let sent = sent_lanes c.args.self.now.table.cards c.args.self.now.table.room (slots c.args.self.now.table) c.args.self.now.store.bytes.now c.args.from c.args.to c.args.lane (slots c.enter.new.self) c.in-ok-slot.slot c.args.frame c.args.self.now.long out.entered in
+    let out = c.in_ok-slot.ensures in
+    let sent = sent_lanes c.args.self.now.table.cards c.args.self.now.table.room (slots c.args.self.now.table) c.args.self.now.store.bytes.now c.args.from c.args.to c.args.lane (slots c.enter.new.self) c.in_ok-slot.slot c.args.frame c.args.self.now.long out.entered in
     record {
       answer = sent.0;
       lanes = ap (λ (bs : List ℕ). through (frame_at bs) (slots c.enter.new.self)) c.write.ensures ∙ sent.1;
@@ -37,9 +37,9 @@ returns c =
       room = out.room;
     }
 
-pub returns-in-err-slot : goal.returns-in-err-slot
-returns-in-err-slot c =
-    let out = c.in-err-slot.ensures in
-    let p = err_from_is_err_and c.from-residual.result c.from-residual.ensures.1 in
-    let kept = kept_lanes c.args.self.now.table.cards c.args.self.now.table.room (slots c.args.self.now.table) c.args.self.now.store.bytes.now c.args.from c.args.to c.args.lane (slots c.enter.new.self) c.in-err-slot.field-0.0 out.entered c.args.frame in
+pub returns-in_err-slot : goal.returns-in_err-slot
+returns-in_err-slot c =
+    let out = c.in_err-slot.ensures in
+    let p = err_from_is_err_and c.from_residual.result c.from_residual.ensures.1 in
+    let kept = kept_lanes c.args.self.now.table.cards c.args.self.now.table.room (slots c.args.self.now.table) c.args.self.now.store.bytes.now c.args.from c.args.to c.args.lane (slots c.enter.new.self) c.in_err-slot.field-0.0 out.entered c.args.frame in
     record { answer = p.1 ∙ ap Err p.2 ∙ kept.0; lanes = kept.1; count = out.cards; room = out.room }
