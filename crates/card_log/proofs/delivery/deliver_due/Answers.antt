@@ -27,7 +27,7 @@ returns g c =
     let f = following own log c.if-card-eq0.false (entry_fields e) c.in-Some.ensures in
     record {
       answer = found_answer own log (entry_fields e ∷ []) f (record { count = 1; last = e.header }) refl refl;
-      state = found_machine own log (entry_fields e ∷ []) f (λ q w. g.M.Machine.applied q (g.M.Machine.unpacked w)) (g.M.Machine.state c.args.machine.now) (g.M.Machine.state c.deliver-one.new.machine) c.deliver-one.ensures;
+      state = found_machine own log (entry_fields e ∷ []) f (λ q w. g.M.Machine.applied q (g.M.Machine.unpacked w)) (g.M.Machine.state c.args.machine.now) (g.M.Machine.state c.deliver_one.new.machine) c.deliver_one.ensures;
       more = count_below e own.next log c.in-Some.ensures;
       few = omega arith;
       stays = tt;

@@ -3,24 +3,24 @@ use Rattle.std.proofs.lemmas.Result.{err_from_is_err_and}
 use Rattle.exchange.proofs.Pushed.{push_refused, push_unsent, push_done}
 use Rattle.exchange.proofs.rows.push.Goals as goal
 
-pub returns-in-err-frame : goal.returns-in-err-frame
-returns-in-err-frame g c =
+pub returns-in_err-frame : goal.returns-in_err-frame
+returns-in_err-frame g c =
     let a = c.args in
     let b = g.B.Backplane in
     let s = a.backplane.now in
-    let p = err_from_is_err_and c.from-residual.result c.from-residual.ensures.1 in
-    let no = push_refused (b.count s) (b.room s) a.i a.j a.kind a.card.now (b.lanes s) c.in-err-frame.field-0.0 c.in-err-frame.ensures in
+    let p = err_from_is_err_and c.from_residual.result c.from_residual.ensures.1 in
+    let no = push_refused (b.count s) (b.room s) a.i a.j a.kind a.card.now (b.lanes s) c.in_err-frame.field-0.0 c.in_err-frame.ensures in
     record { part = rw (p.1, p.2) no; count = refl; room = refl }
 
-pub returns-in-err-send : goal.returns-in-err-send
-returns-in-err-send g c =
+pub returns-in_err-send : goal.returns-in_err-send
+returns-in_err-send g c =
     let a = c.args in
     let b = g.B.Backplane in
     let s = a.backplane.now in
-    let p = err_from_is_err_and c.from-residual-in-err-send.result c.from-residual-in-err-send.ensures.1 in
-    let out = c.in-err-send.ensures in
-    let row = c.in-ok-frame in
-    let no = push_unsent (b.count s) (b.room s) a.i a.j a.kind a.card.now (b.lanes s) row.frame row.ensures (b.lanes c.send.new.self) out.lanes c.in-err-send.field-0.0 out.answer in
+    let p = err_from_is_err_and c.from_residual-in_err-send.result c.from_residual-in_err-send.ensures.1 in
+    let out = c.in_err-send.ensures in
+    let row = c.in_ok-frame in
+    let no = push_unsent (b.count s) (b.room s) a.i a.j a.kind a.card.now (b.lanes s) row.frame row.ensures (b.lanes c.send.new.self) out.lanes c.in_err-send.field-0.0 out.answer in
     record { part = rw (p.1, p.2) no; count = out.count; room = out.room }
 
 pub returns : goal.returns
@@ -28,8 +28,8 @@ returns g c =
     let a = c.args in
     let b = g.B.Backplane in
     let s = a.backplane.now in
-    let out = c.in-ok-send.ensures in
-    let row = c.in-ok-frame in
+    let out = c.in_ok-send.ensures in
+    let row = c.in_ok-frame in
     record {
       part = push_done (b.count s) (b.room s) a.i a.j a.kind a.card.now (b.lanes s) row.frame row.ensures (b.lanes c.send.new.self) out.lanes out.answer;
       count = out.count;

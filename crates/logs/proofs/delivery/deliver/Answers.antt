@@ -17,7 +17,7 @@ loop-entry-preserved g c =
     elim c.if-holds.branch [
       | then-holds w ↦ (
         omega (arith, w.count-is),
-        delivers apply c.args.low (left_by p 0 log) (m.state c.args.machine.now) (left_by p i log) c.loop-entry.count c.loop-entry.last (m.state c.loop-entry.machine) c.loop-entry.invariant.1 (entry_fields c.entry-item.result) (left_by p (i + 1) log) c.if-holds.count c.if-holds.last (m.state c.if-holds.machine) (left_in p log i c.entry-item.result c.loop-entry-test.true c.entry-item.is w.if-holds.ensures) w.count-is w.last-is (ap m.state w.machine-is ∙ w.deliver-one.ensures),
+        delivers apply c.args.low (left_by p 0 log) (m.state c.args.machine.now) (left_by p i log) c.loop-entry.count c.loop-entry.last (m.state c.loop-entry.machine) c.loop-entry.invariant.1 (entry_fields c.entry-item.result) (left_by p (i + 1) log) c.if-holds.count c.if-holds.last (m.state c.if-holds.machine) (left_in p log i c.entry-item.result c.loop-entry-test.true c.entry-item.is w.if-holds.ensures) w.count-is w.last-is (ap m.state w.machine-is ∙ w.deliver_one.ensures),
       )
       | else-holds w ↦ (
         omega (arith, w.count-is),

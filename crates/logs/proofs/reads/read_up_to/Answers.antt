@@ -6,27 +6,27 @@ use Rattle.logs.proofs.reads.read_up_to.Goals.{then-holds, else-holds}
 
 pub returns-then-out-wanted : goal.returns-then-out-wanted
 returns-then-out-wanted c =
-    let d = copy_refused c.args.base c.args.part.now c.args.len c.args.out.now c.count-up-to-wanted.result c.count-up-to-wanted.ensures c.if-out-wanted.true in
+    let d = copy_refused c.args.base c.args.part.now c.args.len c.args.out.now c.count_up_to-wanted.result c.count_up_to-wanted.ensures c.if-out-wanted.true in
     record { answer = d.0; places = d.1 }
 
 pub offset-bounds-out-copied : goal.offset-bounds-out-copied
 offset-bounds-out-copied c =
-    let h : c.loop-entry.copied < length c.args.out.now = copy_room c.args.base c.args.part.now c.args.len c.args.out.now c.count-up-to-wanted.result c.count-up-to-wanted.ensures c.used-log.result.now c.loop-entry.entry-index c.loop-entry.out c.loop-entry.copied c.used-log.ensures c.if-out-wanted.false c.loop-entry.invariant c.entry-item.result c.loop-entry-test.true c.entry-item.is c.if-holds.ensures in
+    let h : c.loop-entry.copied < length c.args.out.now = copy_room c.args.base c.args.part.now c.args.len c.args.out.now c.count_up_to-wanted.result c.count_up_to-wanted.ensures c.used-log.result.now c.loop-entry.entry-index c.loop-entry.out c.loop-entry.copied c.used-log.ensures c.if-out-wanted.false c.loop-entry.invariant c.entry-item.result c.loop-entry-test.true c.entry-item.is c.if-holds.ensures in
     search rules
 
 pub bounds-out-copied : goal.bounds-out-copied
 bounds-out-copied c =
-    let h : c.loop-entry.copied < length c.args.out.now = copy_room c.args.base c.args.part.now c.args.len c.args.out.now c.count-up-to-wanted.result c.count-up-to-wanted.ensures c.used-log.result.now c.loop-entry.entry-index c.loop-entry.out c.loop-entry.copied c.used-log.ensures c.if-out-wanted.false c.loop-entry.invariant c.entry-item.result c.loop-entry-test.true c.entry-item.is c.if-holds.ensures in
+    let h : c.loop-entry.copied < length c.args.out.now = copy_room c.args.base c.args.part.now c.args.len c.args.out.now c.count_up_to-wanted.result c.count_up_to-wanted.ensures c.used-log.result.now c.loop-entry.entry-index c.loop-entry.out c.loop-entry.copied c.used-log.ensures c.if-out-wanted.false c.loop-entry.invariant c.entry-item.result c.loop-entry-test.true c.entry-item.is c.if-holds.ensures in
     omega arith
 
 pub overflow-add-copied : goal.overflow-add-copied
 overflow-add-copied c =
-    let h : c.loop-entry.copied < length c.args.out.now = copy_room c.args.base c.args.part.now c.args.len c.args.out.now c.count-up-to-wanted.result c.count-up-to-wanted.ensures c.used-log.result.now c.loop-entry.entry-index c.loop-entry.out c.loop-entry.copied c.used-log.ensures c.if-out-wanted.false c.loop-entry.invariant c.entry-item.result c.loop-entry-test.true c.entry-item.is c.if-holds.ensures in
+    let h : c.loop-entry.copied < length c.args.out.now = copy_room c.args.base c.args.part.now c.args.len c.args.out.now c.count_up_to-wanted.result c.count_up_to-wanted.ensures c.used-log.result.now c.loop-entry.entry-index c.loop-entry.out c.loop-entry.copied c.used-log.ensures c.if-out-wanted.false c.loop-entry.invariant c.entry-item.result c.loop-entry-test.true c.entry-item.is c.if-holds.ensures in
     search rules
 
 pub loop-entry-preserved : goal.loop-entry-preserved
 loop-entry-preserved c =
-    let room = copy_room c.args.base c.args.part.now c.args.len c.args.out.now c.count-up-to-wanted.result c.count-up-to-wanted.ensures c.used-log.result.now c.loop-entry.entry-index c.loop-entry.out c.loop-entry.copied c.used-log.ensures c.if-out-wanted.false c.loop-entry.invariant c.entry-item.result c.loop-entry-test.true c.entry-item.is in
+    let room = copy_room c.args.base c.args.part.now c.args.len c.args.out.now c.count_up_to-wanted.result c.count_up_to-wanted.ensures c.used-log.result.now c.loop-entry.entry-index c.loop-entry.out c.loop-entry.copied c.used-log.ensures c.if-out-wanted.false c.loop-entry.invariant c.entry-item.result c.loop-entry-test.true c.entry-item.is in
     elim c.if-holds.branch [
       | then-holds w ↦ copied_in (is_up_to c.args.base) c.used-log.result.now c.loop-entry.entry-index c.args.out.now c.loop-entry.out c.loop-entry.copied c.loop-entry.invariant c.entry-item.result c.loop-entry-test.true c.entry-item.is c.if-holds.out c.if-holds.copied w.if-holds.ensures (room w.if-holds.ensures) w.out-is w.copied-is
       | else-holds w ↦ copied_out (is_up_to c.args.base) c.used-log.result.now c.loop-entry.entry-index c.args.out.now c.loop-entry.out c.loop-entry.copied c.loop-entry.invariant c.entry-item.result c.loop-entry-test.true c.entry-item.is c.if-holds.out c.if-holds.copied w.if-holds.ensures w.out-is w.copied-is
@@ -34,5 +34,5 @@ loop-entry-preserved c =
 
 pub returns : goal.returns
 returns c =
-    let d = copy_done c.args.base c.args.part.now c.args.len c.args.out.now c.count-up-to-wanted.result c.count-up-to-wanted.ensures c.used-log.result.now c.loop-entry.entry-index c.loop-entry.out c.loop-entry.copied c.used-log.ensures c.loop-entry-test.false c.if-out-wanted.false c.loop-entry.invariant in
+    let d = copy_done c.args.base c.args.part.now c.args.len c.args.out.now c.count_up_to-wanted.result c.count_up_to-wanted.ensures c.used-log.result.now c.loop-entry.entry-index c.loop-entry.out c.loop-entry.copied c.used-log.ensures c.loop-entry-test.false c.if-out-wanted.false c.loop-entry.invariant in
     record { answer = d.0; places = d.1 }

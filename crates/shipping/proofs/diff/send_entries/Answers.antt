@@ -35,7 +35,7 @@ loop-k-preserved g c =
     let rest = map (entry_frame 3) (filter passes (drop (c.in-Some.k + 1) log)) in
     let found = c.in-Some.ensures in
     let next = ap (map (entry_frame 3)) (walk_some passes c.args.part.now c.args.used c.loop-k.start c.in-Some.k c.index-part-k.result found.within.1 found.within.2 c.index-part-k.is found.value) in (
-      sending_more c.args.i c.args.j (b.lanes c.args.backplane.now) due (b.lanes c.loop-k.backplane) left c.loop-k.invariant.0 (b.lanes c.put.new.backplane) c.entry-frame.result rest (next ∙ ap (λ f. f ∷ rest) (sym c.entry-frame.ensures)) c.put.ensures.lanes,
+      sending_more c.args.i c.args.j (b.lanes c.args.backplane.now) due (b.lanes c.loop-k.backplane) left c.loop-k.invariant.0 (b.lanes c.put.new.backplane) c.entry_frame.result rest (next ∙ ap (λ f. f ∷ rest) (sym c.entry_frame.ensures)) c.put.ensures.lanes,
       c.put.ensures.count ∙ c.loop-k.invariant.1,
       c.put.ensures.room ∙ c.loop-k.invariant.2,
     )
@@ -46,7 +46,7 @@ returns g c =
     let passes = inside c.args.low c.args.high in
     let log = log_of c.args.part.now c.args.used in
     let due = map (entry_frame 3) (filter passes log) in
-    let none = ap (map (entry_frame 3)) (walk_none passes c.loop-k.start (drop c.loop-k.start log) c.in-default.ensures.value) in
+    let none = ap (map (entry_frame 3)) (walk_none passes c.loop-k.start (drop c.loop-k.start log) c.in_default.ensures.value) in
     record {
       lanes = subst (λ left. Sending c.args.i c.args.j (b.lanes c.args.backplane.now) due (b.lanes c.loop-k.backplane) left) none c.loop-k.invariant.0;
       count = c.loop-k.invariant.1;

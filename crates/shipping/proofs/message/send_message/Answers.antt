@@ -10,14 +10,14 @@ use Rattle.shipping.proofs.Sends.{sending_none, sending_more}
 use Rattle.shipping.proofs.Entering.{room_there, enter_refused, enter_all}
 use Rattle.shipping.proofs.message.send_message.Goals as goal
 
-pub returns-in-err-find-room : goal.returns-in-err-find-room
-returns-in-err-find-room g c =
+pub returns-in_err-find_room : goal.returns-in_err-find_room
+returns-in_err-find_room g c =
     let b = g.B.Backplane in
     let s = c.args.backplane.now in
     let due = message_frames (entry_at c.args.header (log_of c.args.part.now c.args.used)) in
     let one : due ≡ entry_frame 1 (entry_fields c.in-Some.entry) ∷ [] = ap message_frames (sym c.in-Some.ensures) in
-    let p = err_from_is_err_and c.from-residual.result c.from-residual.ensures.1 in
-    let out = enter_refused (b.count s) (b.room s) c.args.i c.args.j (b.lanes s) due false (ap (λ xs. eqb (length xs) 0) one) refl 1 (sym (ap length one)) c.in-err-find-room.field-0.0 c.in-err-find-room.ensures in
+    let p = err_from_is_err_and c.from_residual.result c.from_residual.ensures.1 in
+    let out = enter_refused (b.count s) (b.room s) c.args.i c.args.j (b.lanes s) due false (ap (λ xs. eqb (length xs) 0) one) refl 1 (sym (ap length one)) c.in_err-find_room.field-0.0 c.in_err-find_room.ensures in
     record {
       part = ap (λ r. (replied Count r, lane_fields (b.lanes s))) (p.1 ∙ ap Err p.2) ∙ out;
       count = refl;
@@ -28,7 +28,7 @@ pub put-requires : goal.put-requires
 put-requires g c =
     let b = g.B.Backplane in
     let s = c.args.backplane.now in
-    let there = room_there (b.count s) (b.room s) c.args.i c.args.j (length (b.lanes s c.args.i c.args.j 0)) 1 c.in-ok-find-room.ensures in
+    let there = room_there (b.count s) (b.room s) c.args.i c.args.j (length (b.lanes s c.args.i c.args.j 0)) 1 c.in_ok-find_room.ensures in
     record { lane = there.0; room = omega (arith, there.1) }
 
 pub returns : goal.returns
@@ -39,9 +39,9 @@ returns g c =
     let M = b.lanes c.put.new.backplane in
     let due = message_frames (entry_at c.args.header (log_of c.args.part.now c.args.used)) in
     let one : due ≡ entry_frame 1 (entry_fields c.in-Some.entry) ∷ [] = ap message_frames (sym c.in-Some.ensures) in
-    let sent = sending_more c.args.i c.args.j L due L due (sending_none c.args.i c.args.j L due) M c.entry-frame.result [] (one ∙ ap (λ f. f ∷ []) (sym c.entry-frame.ensures)) c.put.ensures.lanes in
+    let sent = sending_more c.args.i c.args.j L due L due (sending_none c.args.i c.args.j L due) M c.entry_frame.result [] (one ∙ ap (λ f. f ∷ []) (sym c.entry_frame.ensures)) c.put.ensures.lanes in
     record {
-      part = enter_all (b.count s) (b.room s) c.args.i c.args.j L due false (ap (λ xs. eqb (length xs) 0) one) refl 1 (sym (ap length one)) c.in-ok-find-room.ensures M sent;
+      part = enter_all (b.count s) (b.room s) c.args.i c.args.j L due false (ap (λ xs. eqb (length xs) 0) one) refl 1 (sym (ap length one)) c.in_ok-find_room.ensures M sent;
       count = c.put.ensures.count;
       room = c.put.ensures.room;
     }

@@ -13,8 +13,8 @@ use Rattle.rack.proofs.Calls.{written_sizes, lent_fits, entries_fit_lem, slice_i
 use Rattle.rack.proofs.Commits.{machine_at, commit_answered, commit_refused, commit_sound}
 use Rattle.rack.proofs.state.Rack.commit.Goals as goal
 
-pub returns-in-err-count : goal.returns-in-err-count
-returns-in-err-count g c =
+pub returns-in_err-count : goal.returns-in_err-count
+returns-in_err-count g c =
     let M = g.M.Machine in
     let r = c.args.self.now in
     let n = card_count r.size in
@@ -25,19 +25,19 @@ returns-in-err-count g c =
     let high = c.span-low.result.1 in
     let d = c.index-machines-card.result in
     let m = get_or ms (i - 1) d in
-    let f = c.in-err-count.field-0.0 in
-    let part = c.in-err-count.ensures in
-    let own = found r i c.in-ok-own.own c.in-ok-own.ensures in
+    let f = c.in_err-count.field-0.0 in
+    let part = c.in_err-count.ensures in
+    let own = found r i c.in_ok-own.own c.in_ok-own.ensures in
     let many : length ms ≡ n = c.if-machines-cards.false ∙ c.cards.ensures in
     let same : set ms (i - 1) c.commit.new.machine ≡ ms = ap (set ms (i - 1)) part.stays ∙ set-get_or ms (i - 1) d in
-    let reply = told_card Count c.from-residual-in-err-count.result f c.from-residual-in-err-count.ensures.1 in
+    let reply = told_card Count c.from_residual-in_err-count.result f c.from_residual-in_err-count.ensures.1 in
     record {
       step = λ lanes.
           (λ k. (reply k, view r xs (machines_of n M.state M.initial (same k)) lanes))
-          ∙ commit_refused (λ q w. M.applied q (M.unpacked w)) r i 0 xs (machines_of n M.state M.initial ms) lanes own.0 c.in-ok-own.own own.1 (take (high - low) (drop low xs)) (slice_is r i low high xs c.span-low.ensures.low c.span-low.ensures.high) c.used-by-used.result c.used-by-used.ensures (M.state m) (machine_at n i M.state M.initial ms d own.0 (omega (arith, many))) (card_refusal f) _ part.part
+          ∙ commit_refused (λ q w. M.applied q (M.unpacked w)) r i 0 xs (machines_of n M.state M.initial ms) lanes own.0 c.in_ok-own.own own.1 (take (high - low) (drop low xs)) (slice_is r i low high xs c.span-low.ensures.low c.span-low.ensures.high) c.used_by-used.result c.used_by-used.ensures (M.state m) (machine_at n i M.state M.initial ms d own.0 (omega (arith, many))) (card_refusal f) _ part.part
           ∙ sym (lent_fits (no_card (sizes r 0) i) _ _ _ (and_from (entries_fit r xs) (machines_fit r ms) (entries_fit_lem r xs c.if-entries-self.false) (eq-eqb (length ms) n many)));
       sizes = refl;
-      stays = stays c.from-residual-in-err-count.result same;
+      stays = stays c.from_residual-in_err-count.result same;
     }
 
 pub put-requires : goal.put-requires
@@ -52,9 +52,9 @@ put-requires g c =
     let high = c.span-low.result.1 in
     let d = c.index-machines-card.result in
     let m = get_or ms (i - 1) d in
-    let own = found r i c.in-ok-own.own c.in-ok-own.ensures in
+    let own = found r i c.in_ok-own.own c.in_ok-own.ensures in
     let many : length ms ≡ n = c.if-machines-cards.false ∙ c.cards.ensures in
-    (own.0, commit_sound (λ q w. M.applied q (M.unpacked w)) r i 0 xs (machines_of n M.state M.initial ms) (λ _ _ _. []) own.0 c.in-ok-own.own own.1 (take (high - low) (drop low xs)) (slice_is r i low high xs c.span-low.ensures.low c.span-low.ensures.high) c.used-by-used.result c.used-by-used.ensures (M.state m) (machine_at n i M.state M.initial ms d own.0 (omega (arith, many))) (Count c.in-ok-count.count) _ c.in-ok-count.ensures.part)
+    (own.0, commit_sound (λ q w. M.applied q (M.unpacked w)) r i 0 xs (machines_of n M.state M.initial ms) (λ _ _ _. []) own.0 c.in_ok-own.own own.1 (take (high - low) (drop low xs)) (slice_is r i low high xs c.span-low.ensures.low c.span-low.ensures.high) c.used_by-used.result c.used_by-used.ensures (M.state m) (machine_at n i M.state M.initial ms d own.0 (omega (arith, many))) (Count c.in_ok-count.count) _ c.in_ok-count.ensures.part)
 
 pub returns : goal.returns
 returns g c =
@@ -68,11 +68,11 @@ returns g c =
     let high = c.span-low.result.1 in
     let d = c.index-machines-card.result in
     let m = get_or ms (i - 1) d in
-    let own = found r i c.in-ok-own.own c.in-ok-own.ensures in
+    let own = found r i c.in_ok-own.own c.in_ok-own.ensures in
     let many : length ms ≡ n = c.if-machines-cards.false ∙ c.cards.ensures in
     record {
       step = λ lanes.
-          commit_answered (λ q w. M.applied q (M.unpacked w)) r i 0 xs (machines_of n M.state M.initial ms) lanes own.0 c.in-ok-own.own own.1 (take (high - low) (drop low xs)) (slice_is r i low high xs c.span-low.ensures.low c.span-low.ensures.high) c.used-by-used.result c.used-by-used.ensures (M.state m) (machine_at n i M.state M.initial ms d own.0 (omega (arith, many))) (Ok (Count c.in-ok-count.count)) _ c.in-ok-count.ensures.part c.put.new.self _ c.put.ensures (machines_set n i M.state M.initial ms c.commit.new.machine own.0 (omega (arith, many)))
+          commit_answered (λ q w. M.applied q (M.unpacked w)) r i 0 xs (machines_of n M.state M.initial ms) lanes own.0 c.in_ok-own.own own.1 (take (high - low) (drop low xs)) (slice_is r i low high xs c.span-low.ensures.low c.span-low.ensures.high) c.used_by-used.result c.used_by-used.ensures (M.state m) (machine_at n i M.state M.initial ms d own.0 (omega (arith, many))) (Ok (Count c.in_ok-count.count)) _ c.in_ok-count.ensures.part c.put.new.self _ c.put.ensures (machines_set n i M.state M.initial ms c.commit.new.machine own.0 (omega (arith, many)))
           ∙ sym (lent_fits (no_card (sizes r 0) i) _ _ _ (and_from (entries_fit r xs) (machines_fit r ms) (entries_fit_lem r xs c.if-entries-self.false) (eq-eqb (length ms) n many)));
       sizes = written_sizes c.args.self.now c.put.new.self c.args.card _ c.put.ensures;
       stays = tt;

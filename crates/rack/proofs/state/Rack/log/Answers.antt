@@ -10,8 +10,8 @@ returns c =
     let i = c.args.card in
     let xs = c.args.entries.now in
     let low = c.span-low.result.0 in
-    let own = found r i _ c.in-ok-card.ensures in (
+    let own = found r i _ c.in_ok-card.ensures in (
       ap not own.0,
       entries_fit_lem r xs c.if-entries-self.false,
-      seen_log r i xs own.0 c.used-by.result c.used-by.ensures low _ c.span-low.ensures.low refl,
+      seen_log r i xs own.0 c.used_by.result c.used_by.ensures low _ c.span-low.ensures.low refl,
     )

@@ -28,7 +28,7 @@ invariant-of-self g c =
     let j = c.args.peer in
     let kind = c.args.kind in
     let at = c.args.backplane.now in
-    let found = paired r i j c.in-ok--own.-own c.in-ok--own.ensures in
+    let found = paired r i j c.in_ok--own.-own c.in_ok--own.ensures in
     let own = get_or r.cards (i - 1) zeroed in
     let pair : Pair r i j own = record { card = found.card; peer = found.peer; apart = found.apart; here = found.here; copied = card_read r i zeroed found.card } in
     let wide : b.count at ≡ card_count r.size = sym c.cards.ensures ∙ c.if-cards.false ∙ c.cards-2.ensures in
@@ -36,22 +36,22 @@ invariant-of-self g c =
     let sound = look_sound r i j kind (b.room at) [] (λ _. tt {0}) (b.lanes at) own pair is (b.count at) wide (replied (λ _. Done) c.look.result) c.look.new.card (b.lanes c.look.new.backplane) c.look.ensures.part in
     (r.full, (r.few, (length-set r.cards (i - 1) c.look.new.card ∙ r.seven, (r.logs, (r.fit, (sound_set r.cards (i - 1) c.look.new.card sound r.sound, tt))))))
 
-pub returns-in-err-look : goal.returns-in-err-look
-returns-in-err-look g c =
+pub returns-in_err-look : goal.returns-in_err-look
+returns-in_err-look g c =
     let b = g.B.Backplane in
     let r = c.args.self.now in
     let i = c.args.card in
     let j = c.args.peer in
     let kind = c.args.kind in
     let at = c.args.backplane.now in
-    let found = paired r i j c.in-ok--own.-own c.in-ok--own.ensures in
+    let found = paired r i j c.in_ok--own.-own c.in_ok--own.ensures in
     let own = get_or r.cards (i - 1) zeroed in
     let pair : Pair r i j own = record { card = found.card; peer = found.peer; apart = found.apart; here = found.here; copied = card_read r i zeroed found.card } in
     let wide : b.count at ≡ card_count r.size = sym c.cards.ensures ∙ c.if-cards.false ∙ c.cards-2.ensures in
     let is : is_row_kind kind ≡ true = and_from (leb 4 kind) (leb kind 6) (le-leb 4 kind c.if-kind-lt4.false) (le-leb kind 6 c.if-kind-gt6.false) in
-    let f = c.in-err-look.field-0.0 in
-    let reply = told_card (λ _. Done) c.from-residual-in-err-look.result f c.from-residual-in-err-look.ensures.1 in
-    let part = c.in-err-look.ensures in
+    let f = c.in_err-look.field-0.0 in
+    let reply = told_card (λ _. Done) c.from_residual-in_err-look.result f c.from_residual-in_err-look.ensures.1 in
+    let part = c.in_err-look.ensures in
     record {
       step = λ entries.
           (λ k. (reply k, view_set r i c.look.new.card entries (λ _. tt {0}) (b.lanes c.look.new.backplane) pair.card k))
@@ -70,12 +70,12 @@ returns g c =
     let j = c.args.peer in
     let kind = c.args.kind in
     let at = c.args.backplane.now in
-    let found = paired r i j c.in-ok--own.-own c.in-ok--own.ensures in
+    let found = paired r i j c.in_ok--own.-own c.in_ok--own.ensures in
     let own = get_or r.cards (i - 1) zeroed in
     let pair : Pair r i j own = record { card = found.card; peer = found.peer; apart = found.apart; here = found.here; copied = card_read r i zeroed found.card } in
     let wide : b.count at ≡ card_count r.size = sym c.cards.ensures ∙ c.if-cards.false ∙ c.cards-2.ensures in
     let is : is_row_kind kind ≡ true = and_from (leb 4 kind) (leb kind 6) (le-leb 4 kind c.if-kind-lt4.false) (le-leb kind 6 c.if-kind-gt6.false) in
-    let part = c.in-ok-look.ensures in
+    let part = c.in_ok-look.ensures in
     record {
       step = λ entries.
           (λ k. (Ok Done, view_set r i c.look.new.card entries (λ _. tt {0}) (b.lanes c.look.new.backplane) pair.card k))

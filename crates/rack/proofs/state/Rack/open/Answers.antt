@@ -14,14 +14,14 @@ returns g c =
     let size = size_of_lem c.args.cards c.in-Ok.size c.in-Ok.ensures in
     let x = c.opened.result in
     let card = c.opened.ensures in
-    let quiet : L ≡ empty_lanes = subst (λ b. MatchBool b (L ≡ empty_lanes) (L ≡ empty_lanes → ⊥)) c.if-not-is-quiet.false c.is-quiet.ensures in
+    let quiet : L ≡ empty_lanes = subst (λ b. MatchBool b (L ≡ empty_lanes) (L ≡ empty_lanes → ⊥)) c.if-not-is_quiet.false c.is_quiet.ensures in
     let cards : List Card = x ∷ x ∷ x ∷ x ∷ x ∷ x ∷ x ∷ [] in
     let used : List ℕ = 0 ∷ 0 ∷ 0 ∷ 0 ∷ 0 ∷ 0 ∷ 0 ∷ [] in
     let new : All (λ c. c ≡ opened_card) cards = (card, (card, (card, (card, (card, (card, (card, tt))))))) in
     let unused : All (λ u. u ≡ 0) used = (refl, (refl, (refl, (refl, (refl, (refl, (refl, tt))))))) in
     record {
       opened = (
-        record { size = size.1; low = c.if-places-lt1.false; high = c.if-places-gt-MOST-PLACES.false; long = c.if-entries-total.false; many = c.if-machines-cards.false; wide = sym c.cards.ensures ∙ c.if-cards.false; quiet = quiet },
+        record { size = size.1; low = c.if-places-lt1.false; high = c.if-places-gt-MOST_PLACES.false; long = c.if-entries-total.false; many = c.if-machines-cards.false; wide = sym c.cards.ensures ∙ c.if-cards.false; quiet = quiet },
         view_opened c.in-Ok.size c.args.places 0 c.args.cards cards used c.args.entries.now c.restart.new.machines M.state M.initial L new unused refl c.restart.ensures quiet,
         λ k. record { cards = size.0 k; places = c.args.places; capacity = g.B.Backplane.room s },
       );

@@ -11,21 +11,21 @@ use Rattle.rack.proofs.Peers.{paired}
 use Rattle.rack.proofs.Exchanges.{push_done}
 use Rattle.rack.proofs.state.Rack.push.Goals as goal
 
-pub returns-in-err-push : goal.returns-in-err-push
-returns-in-err-push g c =
+pub returns-in_err-push : goal.returns-in_err-push
+returns-in_err-push g c =
     let b = g.B.Backplane in
     let r = c.args.self.now in
     let i = c.args.card in
     let j = c.args.peer in
     let at = c.args.backplane.now in
-    let own = c.in-ok-own.own in
-    let pair = paired r i j own c.in-ok-own.ensures in
+    let own = c.in_ok-own.own in
+    let pair = paired r i j own c.in_ok-own.ensures in
     let wide : b.count at ≡ card_count r.size = sym c.cards.ensures ∙ c.if-cards.false ∙ c.cards-2.ensures in
     let kind = c.args.kind in
     let is : is_row_kind kind ≡ true = and_from (leb 4 kind) (leb kind 6) (le-leb 4 kind c.if-kind-lt4.false) (le-leb kind 6 c.if-kind-gt6.false) in
-    let f = c.in-err-push.field-0.0 in
-    let reply = told_card (λ _. Done) c.from-residual-in-err-push.result f c.from-residual-in-err-push.ensures.1 in
-    let part = c.in-err-push.ensures in
+    let f = c.in_err-push.field-0.0 in
+    let reply = told_card (λ _. Done) c.from_residual-in_err-push.result f c.from_residual-in_err-push.ensures.1 in
+    let part = c.in_err-push.ensures in
     record {
       step = λ entries.
           (λ k. (reply k, view r entries (λ _. tt {0}) (b.lanes c.push.new.backplane)))
@@ -42,12 +42,12 @@ returns g c =
     let i = c.args.card in
     let j = c.args.peer in
     let at = c.args.backplane.now in
-    let own = c.in-ok-own.own in
-    let pair = paired r i j own c.in-ok-own.ensures in
+    let own = c.in_ok-own.own in
+    let pair = paired r i j own c.in_ok-own.ensures in
     let wide : b.count at ≡ card_count r.size = sym c.cards.ensures ∙ c.if-cards.false ∙ c.cards-2.ensures in
     let kind = c.args.kind in
     let is : is_row_kind kind ≡ true = and_from (leb 4 kind) (leb kind 6) (le-leb 4 kind c.if-kind-lt4.false) (le-leb kind 6 c.if-kind-gt6.false) in
-    let part = c.in-ok-push.ensures in
+    let part = c.in_ok-push.ensures in
     record {
       step = λ entries.
           push_done r i j kind (b.room at) entries (λ _. tt {0}) (b.lanes at) own pair is (b.count at) wide (Ok Done) (b.lanes c.push.new.backplane) part.part

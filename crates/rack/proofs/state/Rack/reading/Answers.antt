@@ -17,10 +17,10 @@ returns-in-Some c =
     let low = c.span-low.result.0 in
     let high = c.span-low.result.1 in
     let part = take (high - low) (drop low xs) in
-    let own = found r i c.in-ok-own.own c.in-ok-own.ensures in
+    let own = found r i c.in_ok-own.own c.in_ok-own.ensures in
     let list = reading (view r xs (λ _. tt {0}) empty_lanes) i in
-    let same = read_same r i xs own.0 c.used-by.result c.used-by.ensures c.in-ok-own.own part own.1 (slice_is r i low high xs c.span-low.ensures.low c.span-low.ensures.high) in
-    let done = read_some c.in-ok-own.own.committed part c.used-by.result c.args.out.now c.read-up-to.new.out list same c.in-Some.count c.in-Some.ensures.answer c.in-Some.ensures.places in
+    let same = read_same r i xs own.0 c.used_by.result c.used_by.ensures c.in_ok-own.own part own.1 (slice_is r i low high xs c.span-low.ensures.low c.span-low.ensures.high) in
+    let done = read_some c.in_ok-own.own.committed part c.used_by.result c.args.out.now c.read_up_to.new.out list same c.in-Some.count c.in-Some.ensures.answer c.in-Some.ensures.places in
     (ap not own.0, and_from (entries_fit r xs) (leb (length list) (length c.args.out.now)) (entries_fit_lem r xs c.if-entries-self.false) done.0, done.1, done.2, done.3)
 
 pub returns-in-None : goal.returns-in-None
@@ -31,10 +31,10 @@ returns-in-None c =
     let low = c.span-low.result.0 in
     let high = c.span-low.result.1 in
     let part = take (high - low) (drop low xs) in
-    let own = found r i c.in-ok-own.own c.in-ok-own.ensures in
+    let own = found r i c.in_ok-own.own c.in_ok-own.ensures in
     let list = reading (view r xs (λ _. tt {0}) empty_lanes) i in
-    let same = read_same r i xs own.0 c.used-by.result c.used-by.ensures c.in-ok-own.own part own.1 (slice_is r i low high xs c.span-low.ensures.low c.span-low.ensures.high) in
-    let none = read_none c.in-ok-own.own.committed part c.used-by.result c.args.out.now c.read-up-to.new.out list same c.in-None.ensures.answer c.in-None.ensures.places in (
+    let same = read_same r i xs own.0 c.used_by.result c.used_by.ensures c.in_ok-own.own part own.1 (slice_is r i low high xs c.span-low.ensures.low c.span-low.ensures.high) in
+    let none = read_none c.in_ok-own.own.committed part c.used_by.result c.args.out.now c.read_up_to.new.out list same c.in-None.ensures.answer c.in-None.ensures.places in (
       sym (ap (λ b. cond (not b) NoSuchCard WrongSize) own.0),
       ap (λ b. cond (not b) false (entries_fit r xs && leb (length list) (length c.args.out.now))) own.0 ∙ and_right (entries_fit r xs) (leb (length list) (length c.args.out.now)) none.0,
       none.1,

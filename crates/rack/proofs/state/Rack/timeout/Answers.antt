@@ -18,23 +18,23 @@ use Rattle.rack.proofs.state.Rack.timeout.Goals as goal
 abbrev checks : RackSize → ℕ → Card → List (Bool × Refusal)
 checks n i d = (d.stopped, Stopped) ∷ (is_err (standing_epoch (of_cards n) i d), UsedUp) ∷ []
 
-pub returns-in-err-epoch : goal.returns-in-err-epoch
-returns-in-err-epoch c =
+pub returns-in_err-epoch : goal.returns-in_err-epoch
+returns-in_err-epoch c =
     let r = c.args.self.now in
     let i = c.args.card in
-    let d = c.in-ok-own.own in
-    let f = c.in-err-epoch.field-0.0 in
-    let own = found r i d c.in-ok-own.ensures in
-    let reply = told_card ForEpoch c.from-residual-in-err-epoch.result f c.from-residual-in-err-epoch.ensures.1 in
-    record { step = λ entries lanes. refused (checks r.size i) (λ e. ForEpoch (timeout_epoch (of_cards r.size) i e)) (timed_out (of_cards r.size) i) r i d c.timeout.new.card entries (λ _. tt {0}) lanes _ (card_refusal f) reply own c.in-err-epoch.ensures; sizes = refl }
+    let d = c.in_ok-own.own in
+    let f = c.in_err-epoch.field-0.0 in
+    let own = found r i d c.in_ok-own.ensures in
+    let reply = told_card ForEpoch c.from_residual-in_err-epoch.result f c.from_residual-in_err-epoch.ensures.1 in
+    record { step = λ entries lanes. refused (checks r.size i) (λ e. ForEpoch (timeout_epoch (of_cards r.size) i e)) (timed_out (of_cards r.size) i) r i d c.timeout.new.card entries (λ _. tt {0}) lanes _ (card_refusal f) reply own c.in_err-epoch.ensures; sizes = refl }
 
 pub put-requires : goal.put-requires
 put-requires c =
     let r = c.args.self.now in
     let i = c.args.card in
-    let d = c.in-ok-own.own in
-    let own = found r i d c.in-ok-own.ensures in
-    let out = ask_done (checks r.size i d) (ForEpoch (timeout_epoch (of_cards r.size) i d)) (ForEpoch c.in-ok-epoch.epoch) (timed_out (of_cards r.size) i d) d c.timeout.new.card c.in-ok-epoch.ensures in
+    let d = c.in_ok-own.own in
+    let own = found r i d c.in_ok-own.ensures in
+    let out = ask_done (checks r.size i d) (ForEpoch (timeout_epoch (of_cards r.size) i d)) (ForEpoch c.in_ok-epoch.epoch) (timed_out (of_cards r.size) i d) d c.timeout.new.card c.in_ok-epoch.ensures in
     let before : sound_card d ≡ true = ap sound_card own.1 ∙ r.sound (i - 1) in
     (own.0, ap sound_card out.2 ∙ sound_timed_out (of_cards r.size) i d before out.0.1.0)
 
@@ -42,6 +42,6 @@ pub returns : goal.returns
 returns c =
     let r = c.args.self.now in
     let i = c.args.card in
-    let d = c.in-ok-own.own in
-    let own = found r i d c.in-ok-own.ensures in
-    record { step = λ entries lanes. carried (checks r.size i) (λ e. ForEpoch (timeout_epoch (of_cards r.size) i e)) (timed_out (of_cards r.size) i) r c.put.new.self i d c.timeout.new.card entries (λ _. tt {0}) lanes (Ok (ForEpoch c.in-ok-epoch.epoch)) own c.put.ensures c.in-ok-epoch.ensures; sizes = written_sizes c.args.self.now c.put.new.self c.args.card _ c.put.ensures }
+    let d = c.in_ok-own.own in
+    let own = found r i d c.in_ok-own.ensures in
+    record { step = λ entries lanes. carried (checks r.size i) (λ e. ForEpoch (timeout_epoch (of_cards r.size) i e)) (timed_out (of_cards r.size) i) r c.put.new.self i d c.timeout.new.card entries (λ _. tt {0}) lanes (Ok (ForEpoch c.in_ok-epoch.epoch)) own c.put.ensures c.in_ok-epoch.ensures; sizes = written_sizes c.args.self.now c.put.new.self c.args.card _ c.put.ensures }

@@ -3,17 +3,17 @@ use Rattle.taking.proofs.Copies.{copy_there, copy_kind, copy_more}
 use Rattle.taking.proofs.Loads.{entry_carries}
 use Rattle.taking.proofs.diff.OpenedDiff.copy_entries.Goals as goal
 
-pub frame-there-frame-requires : goal.frame-there-frame-requires
-frame-there-frame-requires g c =
+pub frame_there-frame-requires : goal.frame_there-frame-requires
+frame_there-frame-requires g c =
     let d = c.args.self.now in
     (c.requires.there, copy_there d.base (d.epoch.0, d.epoch.1, 0) d.entries c.loop-index.index (g.B.Backplane.lanes c.args.backplane.now d.from d.to 0) c.requires.whole c.loop-index-test.true)
 
-pub entry-in-requires : goal.entry-in-requires
-entry-in-requires g c =
+pub entry_in-requires : goal.entry_in-requires
+entry_in-requires g c =
     let d = c.args.self.now in
-    entry_carries c.frame-there-frame.result (copy_kind d.base (d.epoch.0, d.epoch.1, 0) d.entries c.loop-index.index (g.B.Backplane.lanes c.args.backplane.now d.from d.to 0) c.requires.whole c.loop-index-test.true c.frame-there-frame.result c.frame-there-frame.ensures)
+    entry_carries c.frame_there-frame.result (copy_kind d.base (d.epoch.0, d.epoch.1, 0) d.entries c.loop-index.index (g.B.Backplane.lanes c.args.backplane.now d.from d.to 0) c.requires.whole c.loop-index-test.true c.frame_there-frame.result c.frame_there-frame.ensures)
 
 pub loop-index-preserved : goal.loop-index-preserved
 loop-index-preserved g c =
     let d = c.args.self.now in
-    copy_more d.base (d.epoch.0, d.epoch.1, 0) d.entries c.loop-index.index (g.B.Backplane.lanes c.args.backplane.now d.from d.to 0) c.requires.whole c.loop-index-test.true c.frame-there-frame.result c.frame-there-frame.ensures c.args.part.now c.loop-index.part c.args.start c.entry-in.result c.entry-in.ensures (omega (arith, c.requires.room, c.loop-index-test.true, c.loop-index.auto.part)) c.loop-index.invariant
+    copy_more d.base (d.epoch.0, d.epoch.1, 0) d.entries c.loop-index.index (g.B.Backplane.lanes c.args.backplane.now d.from d.to 0) c.requires.whole c.loop-index-test.true c.frame_there-frame.result c.frame_there-frame.ensures c.args.part.now c.loop-index.part c.args.start c.entry_in.result c.entry_in.ensures (omega (arith, c.requires.room, c.loop-index-test.true, c.loop-index.auto.part)) c.loop-index.invariant

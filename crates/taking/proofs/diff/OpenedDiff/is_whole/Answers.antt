@@ -15,25 +15,25 @@ loop-index-preserved g c =
     let d = c.args.self.now in
     let i = c.loop-index.index in
     let there = frame_first (g.B.Backplane.count s) (g.B.Backplane.lanes s) d.from d.to (i + 1) c.in-Ok.frame c.in-Ok.ensures in
-    whole_more c.loop-index.low (d.epoch.0, d.epoch.1, 0) d.entries i c.loop-index-test.true (g.B.Backplane.lanes s d.from d.to 0) c.in-Ok.frame there.1 c.if-not-is-entry-between.ensures
+    whole_more c.loop-index.low (d.epoch.0, d.epoch.1, 0) d.entries i c.loop-index-test.true (g.B.Backplane.lanes s d.from d.to 0) c.in-Ok.frame there.1 c.if-not-is_entry_between.ensures
     ∙ c.loop-index.invariant
 
-pub returns-in-default : goal.returns-in-default
-returns-in-default g c =
+pub returns-in_default : goal.returns-in_default
+returns-in_default g c =
     let s = c.args.backplane.now in
     let d = c.args.self.now in
     let i = c.loop-index.index in
-    let none = frame_none (g.B.Backplane.count s) (g.B.Backplane.lanes s) d.from d.to (i + 1) c.in-default.field-0 (g.B.Backplane.nowhere s d.from d.to 0) c.in-default.ensures in
+    let none = frame_none (g.B.Backplane.count s) (g.B.Backplane.lanes s) d.from d.to (i + 1) c.in_default.field-0 (g.B.Backplane.nowhere s d.from d.to 0) c.in_default.ensures in
     whole_short c.loop-index.low (d.epoch.0, d.epoch.1, 0) d.entries i c.loop-index-test.true (g.B.Backplane.lanes s d.from d.to 0) none
     ∙ c.loop-index.invariant
 
-pub returns-then-not-is-entry-between : goal.returns-then-not-is-entry-between
-returns-then-not-is-entry-between g c =
+pub returns-then-not-is_entry_between : goal.returns-then-not-is_entry_between
+returns-then-not-is_entry_between g c =
     let s = c.args.backplane.now in
     let d = c.args.self.now in
     let i = c.loop-index.index in
     let there = frame_first (g.B.Backplane.count s) (g.B.Backplane.lanes s) d.from d.to (i + 1) c.in-Ok.frame c.in-Ok.ensures in
-    whole_not c.loop-index.low (d.epoch.0, d.epoch.1, 0) d.entries i c.loop-index-test.true (g.B.Backplane.lanes s d.from d.to 0) c.in-Ok.frame there.1 c.if-not-is-entry-between.ensures
+    whole_not c.loop-index.low (d.epoch.0, d.epoch.1, 0) d.entries i c.loop-index-test.true (g.B.Backplane.lanes s d.from d.to 0) c.in-Ok.frame there.1 c.if-not-is_entry_between.ensures
     ∙ c.loop-index.invariant
 
 pub returns : goal.returns
