@@ -1,4 +1,6 @@
 // A desk for support staff: frames in numbers become slots in hexadecimal, and slots become frames.
+#![tactic(auto)]
+
 mod hex;
 mod replies;
 mod requests;
