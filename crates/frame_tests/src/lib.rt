@@ -1,3 +1,5 @@
+#![tactic(auto)]
+
 // Cases for marks, frames, slots and numbers on a line.
 #[cfg(test)]
 mod marks_cases;
