@@ -1,11 +1,10 @@
 -- What the board promises to those who book.
-use Rattle.std.specs.Prelude.{◌≡◌, ℕ, ◌⊎◌, List, [], ◌∷◌, ◌++◌, Some, None, Option}
+use Rattle.std.specs.Prelude.{◌≡◌, ℕ, ◌⊎◌, List, [], ◌∷◌, ◌++◌, Some}
 use Rattle.machines.specs.Lone.{alone}
 use Rattle.machines.specs.declared.runs.Item.{Item}
 use Rattle.board.specs.Bookings.{unpacked}
 use Rattle.board.specs.Loads.{holder_of, all_open, acted}
-use Rattle.board.specs.declared.bookings.Act.{Act}
-use Rattle.board.specs.declared.bookings.Act.TheVariants.{Book, Release}
+use Rattle.board.specs.declared.bookings.Act.TheVariants.{Release}
 use Rattle.board.specs.declared.bookings.BoardPayload.{BoardPayload}
 use Rattle.board.specs.declared.bookings.BoardPayload.TheVariants.{Blank, Asked}
 

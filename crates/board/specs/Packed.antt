@@ -1,13 +1,12 @@
 -- The two laws of the packing, of the board.
-use Rattle.std.specs.Prelude.{◌≡◌, ℕ, true, Some, None, Option, ◌==◌, ◌≢◌, refl}
+use Rattle.std.specs.Prelude.{◌≡◌, ℕ, true, Some, None, ◌==◌, ◌≢◌, refl}
 use Rattle.std.proofs.Common.{sym, ap, ◌∙◌, ⊎_elim}
 use Rattle.std.specs.Option.{unwrap_or, option_map}
-use Rattle.std.proofs.lemmas.Bool.{cases_bool, eqb-true, cond-true, cond-false}
+use Rattle.std.proofs.lemmas.Bool.{cases_Bool, eqb-true, cond-true, cond-false}
 use Rattle.board.specs.Ranges.{bookable}
-use Rattle.board.specs.Bookings.{act_number, booking, drafted, asked, packed, unpacked}
+use Rattle.board.specs.Bookings.{act_number, drafted, asked, packed, unpacked}
 use Rattle.board.specs.declared.bookings.Act.{Act}
 use Rattle.board.specs.declared.bookings.Act.TheVariants.{Book, Release}
-use Rattle.board.specs.declared.bookings.Booking.{Booking}
 use Rattle.board.specs.declared.bookings.BoardPayload.{BoardPayload}
 use Rattle.board.specs.declared.bookings.BoardPayload.TheVariants.{Blank, Asked}
 use Rattle.board.specs.Made.{entered, booking_is, booking_none}
@@ -29,12 +28,12 @@ other w none =
     ∙ ⊎_elim
     (λ f. ap (λ o. asked o w.0 w.2) (cond-true (w.1 == 2) (Some Release) None f) ∙ unmade Release (eqb-true w.1 2 f))
     (λ f. ap (λ o. asked o w.0 w.2) (cond-false (w.1 == 2) (Some Release) None f))
-    (cases_bool (w.1 == 2)))
-    (cases_bool (w.1 == 1))
+    (cases_Bool (w.1 == 2)))
+    (cases_Bool (w.1 == 1))
   where
     unmade : (a : Act) → w.1 ≡ act_number a → unwrap_or (drafted (w.0, a, w.2)) Blank ≡ Blank
     unmade a e =
         ⊎_elim
         (λ h. absurd (none (Asked (entered w.0 a w.2 h)) (ap (λ n. (w.0, n, w.2)) (sym e))))
         (λ h. ap (λ o. unwrap_or (option_map Asked o) Blank) (booking_none w.0 a w.2 h))
-        (cases_bool (bookable w.0 w.2))
+        (cases_Bool (bookable w.0 w.2))

@@ -1,4 +1,6 @@
 // The load board: 64 loads, each open or held by one carrier, changed by bookings and releases.
+#![tactic(auto)]
+
 mod acts;
 mod bookings;
 mod loads;
