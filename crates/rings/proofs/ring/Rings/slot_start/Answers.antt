@@ -8,8 +8,8 @@ use Rattle.rings.specs.Rings.{rings_bytes, rings_lanes}
 use Rattle.rings.proofs.Frames.{waiting_bytes, none_waiting}
 use Rattle.rings.proofs.ring.Rings.slot_start.Goals as goal
 
-pub overflow-mul-result : goal.overflow-mul-result
-overflow-mul-result c =
+pub overflow_mul-result : goal.overflow_mul-result
+overflow_mul-result c =
     let s = c.args.self.now.table in
     omega (arith, slots_most s.cards s.room s.few s.most, c.in_ok-slot.ensures.below)
 

@@ -7,24 +7,26 @@ use Rattle.rings.specs.Slots.{every, frame_at, is_frame_at}
 use Rattle.rings.proofs.Frames.{long_kept, sent_long, sent_frames, sent_lanes, kept_frames, kept_lanes}
 use Rattle.rings.proofs.ring.calls.RingsBackplane.send.Goals as goal
 
-pub invariant-of-self : goal.invariant-of-self
-invariant-of-self c =
-    let out = c.in_err-slot.ensures in (
-      long_kept c.args.self.now.table.cards c.args.self.now.table.room c.enter.new.self.cards c.enter.new.self.room (length c.args.self.now.store.bytes.now) out.cards out.room c.args.self.now.long,
-      (kept_frames c.args.self.now.table.cards c.args.self.now.table.room (slots c.args.self.now.table) c.args.self.now.store.bytes.now c.args.from c.args.to c.args.lane (slots c.enter.new.self) c.in_err-slot.field-0.0 out.entered c.args.self.now.frames, tt),
-    )
+pub invariant_of-self : goal.invariant_of-self
+invariant_of-self c =
+    let out = c.in_err-slot.ensures in
+    record {
+      long = long_kept c.args.self.now.table.cards c.args.self.now.table.room c.enter.new.self.cards c.enter.new.self.room (length c.args.self.now.store.bytes.now) out.cards out.room c.args.self.now.long;
+      frames = kept_frames c.args.self.now.table.cards c.args.self.now.table.room (slots c.args.self.now.table) c.args.self.now.store.bytes.now c.args.from c.args.to c.args.lane (slots c.enter.new.self) c.in_err-slot.field-0.0 out.entered c.args.self.now.frames;
+    }
 
-pub invariant-of-self-2 : goal.invariant-of-self-2
-invariant-of-self-2 c =
+pub invariant_of-self-2 : goal.invariant_of-self-2
+invariant_of-self-2 c =
     let out = c.in_ok-slot.ensures in
     let n = c.args.self.now.table.cards in
     let room = c.args.self.now.table.room in
     let long = sent_long c.args.self.now.table.cards c.args.self.now.table.room (slots c.args.self.now.table) c.args.self.now.store.bytes.now c.args.from c.args.to c.args.lane (slots c.enter.new.self) c.in_ok-slot.slot c.args.frame c.args.self.now.long out.entered in
     let frames = sent_frames c.args.self.now.table.cards c.args.self.now.table.room (slots c.args.self.now.table) c.args.self.now.store.bytes.now c.args.from c.args.to c.args.lane (slots c.enter.new.self) c.in_ok-slot.slot c.args.frame c.args.self.now.long out.entered c.args.self.now.frames in
-    let now_long = subst (λ (bs : List ℕ). slots_of n room * 48 ≤ length bs) (sym c.write.ensures) long in (
-      long_kept c.args.self.now.table.cards c.args.self.now.table.room c.enter.new.self.cards c.enter.new.self.room (length c.write.new.self.bytes.now) out.cards out.room now_long,
-      (subst (λ (bs : List ℕ). (f t l : ℕ) → every (through (is_frame_at bs) (slots c.enter.new.self) f t l) ≡ true) (sym c.write.ensures) frames, tt),
-    )
+    let now_long = subst (λ (bs : List ℕ). slots_of n room * 48 ≤ length bs) (sym c.write.ensures) long in
+    record {
+      long = long_kept c.args.self.now.table.cards c.args.self.now.table.room c.enter.new.self.cards c.enter.new.self.room (length c.write.new.self.bytes.now) out.cards out.room now_long;
+      frames = subst (λ (bs : List ℕ). (f t l : ℕ) → every (through (is_frame_at bs) (slots c.enter.new.self) f t l) ≡ true) (sym c.write.ensures) frames;
+    }
 
 pub returns : goal.returns
 returns c =
