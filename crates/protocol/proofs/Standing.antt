@@ -1,12 +1,12 @@
 -- A card that has accepted more than the largest vote's header stands itself.
-use Rattle.std.proofs.Common.{◌≡◌, ℕ, Bool, true, false, cond, not, ◌&&◌, is_err, Ok, Result, sym, refl, ap, ◌∙◌, subst}
+use Rattle.std.proofs.Common.{◌≡◌, true, false, cond, not, ◌&&◌, is_err, Ok, Result, ap, ◌∙◌}
 use Rattle.std.specs.Result.{result_unwrap_or}
 use Rattle.std.proofs.lemmas.Bool.{and_right}
 use Rattle.refusals.specs.declared.Refusal.{Refusal}
 use Rattle.marks.specs.Kinds.{Epoch, Header, Vote}
-use Rattle.marks.specs.Order.{epoch_up_to, header_below}
+use Rattle.marks.specs.Order.{header_below}
 use Rattle.marks.specs.Least.{least_epoch}
-use Rattle.protocol.specs.Rack.{Sizes, State, Reply, with_card, is_electing}
+use Rattle.protocol.specs.Rack.{State, Reply, with_card, is_electing}
 use Rattle.protocol.specs.Voting.{largest_vote, later_epoch, standing_epoch, stands, elect, elect_checks, elected, timed_out, joins, joined_to, elect_answer}
 use Rattle.protocol.specs.Samples.{StandSample}
 use Rattle.protocol.specs.declared.answer.Answer.TheVariants.{Chose}

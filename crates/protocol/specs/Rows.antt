@@ -1,5 +1,5 @@
 -- The table of peer rows, the n rows that a card goes by, and the majority test.
-use Rattle.std.specs.Prelude.{ℕ, zero, suc, ◌+◌, ◌-◌, ◌/◌, Bool, cond, List, [], ◌∷◌, Some, None, Option, ◌==◌, nat_le, nat_lt, slice_index_or, slice_set}
+use Rattle.std.specs.Prelude.{ℕ, zero, suc, ◌+◌, ◌-◌, ◌/◌, Bool, cond, List, [], ◌∷◌, None, Option, ◌==◌, nat_le, nat_lt, slice_index_or, slice_set}
 use Rattle.marks.specs.Kinds.{Header, Vote}
 use Rattle.protocol.specs.declared.peers.PeerRow.{PeerRow}
 use Rattle.protocol.specs.declared.peers.PeerTable.{PeerTable}

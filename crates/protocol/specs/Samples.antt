@@ -1,6 +1,6 @@
 -- Small values that fix how the definitions are read.
-use Rattle.std.specs.Prelude.{◌≡◌, ℕ, true, false, List, [], ◌∷◌, Ok}
-use Rattle.marks.specs.Kinds.{Epoch, Header}
+use Rattle.std.specs.Prelude.{◌≡◌, ℕ, true, false, [], ◌∷◌, Ok}
+use Rattle.marks.specs.Kinds.{Header}
 use Rattle.marks.specs.Order.{epoch_up_to}
 use Rattle.frames.specs.Fields.{Words, EntryFields}
 use Rattle.protocol.specs.Rack.{Sizes, State, no_card}

@@ -1,12 +1,12 @@
 -- take: the first message or whole diff of a peer's lane 0.
-use Rattle.std.specs.Prelude.{ℕ, ◌+◌, Bool, true, false, cond, not, ◌&&◌, ◌||◌, List, [], ◌∷◌, ◌++◌, map, length, take, drop, filter, ◌==◌, nat_lt}
+use Rattle.std.specs.Prelude.{ℕ, ◌+◌, Bool, true, cond, not, ◌&&◌, ◌||◌, List, [], ◌∷◌, ◌++◌, map, length, take, drop, filter, ◌==◌, nat_lt}
 use Rattle.refusals.specs.declared.Refusal.{Refusal}
 use Rattle.refusals.specs.declared.Refusal.TheVariants.{NoSuchCard, Stopped, NothingDue, Malformed, OutOfTurn, LogFull}
 use Rattle.marks.specs.Kinds.{Epoch, Header}
 use Rattle.marks.specs.Order.{epoch_below, epoch_same, header_below, header_up_to}
 use Rattle.frames.specs.Fields.{EntryFields, FrameFields, header_of, epoch_of, words_header}
 use Rattle.protocol.specs.Rack.{Sizes, State, Reply, with_card, with_log, with_lane, ask, no_peer}
-use Rattle.protocol.specs.Booking.{accepted_up_to, place_after}
+use Rattle.protocol.specs.Booking.{accepted_up_to}
 use Rattle.protocol.specs.declared.answer.Answer.{Answer}
 use Rattle.protocol.specs.declared.answer.Answer.TheVariants.{Took}
 use Rattle.protocol.specs.declared.answer.Intake.TheVariants.{PassedOver, Appended, Installed}

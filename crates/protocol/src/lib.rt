@@ -1,4 +1,6 @@
 // The cards of a rack, and what each of the ten calls does to them.
+#![tactic(auto)]
+
 ghost use Rattle.protocol.specs.Samples.{CutSample, StandSample};
 
 pub mod answer;
