@@ -1,4 +1,6 @@
 // An election worked out step by step: one card's view of all vote rows, a line each.
+#![tactic(auto)]
+
 mod cases;
 mod steps;
 
