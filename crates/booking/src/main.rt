@@ -1,4 +1,6 @@
 // A booking on the load board, and what becomes of it when the leading card fails.
+#![tactic(auto)]
+
 mod boards;
 mod calls;
 mod outcomes;

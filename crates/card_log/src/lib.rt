@@ -1,4 +1,6 @@
 // submit and commit, on one card and its log.
+#![tactic(auto)]
+
 mod booking;
 mod delivery;
 

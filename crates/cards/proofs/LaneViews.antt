@@ -1,8 +1,8 @@
 -- One lane changed, as frames and as their numbers.
-use Rattle.std.proofs.Common.{◌≡◌, ℕ, Bool, true, false, cond, ◌&&◌, eqb, List, map, sym, refl, ap, ◌∙◌}
+use Rattle.std.proofs.Common.{◌≡◌, ℕ, Bool, true, false, cond, ◌&&◌, eqb, List, map, refl}
 use mathlib.Core.Path.{fun_ext}
 use Rattle.std.proofs.lemmas.Bool.{eqb-true}
-use Rattle.backplane.specs.Lanes.{Lanes, LanesOf, with_lane}
+use Rattle.backplane.specs.Lanes.{Lanes, with_lane}
 use Rattle.frames.specs.declared.frame.Frame.{Frame}
 use Rattle.frames.specs.Fields.{FrameFields}
 use Rattle.frames.specs.Views.{frame_fields}

@@ -1,12 +1,11 @@
 -- A card's own row by its kind, and the words of a vote row.
-use Rattle.std.proofs.Common.{◌≡◌, ℕ, ◌<◌, Bool, true, false, cond, ◌&&◌, ◌||◌, eqb, sym, refl, ap, ◌∙◌, arith}
+use Rattle.std.proofs.Common.{◌≡◌, ℕ, ◌<◌, true, cond, eqb, sym, ap, ◌∙◌, arith}
 use Rattle.std.proofs.lemmas.Bool.{ne_eqb, and_parts}
 use Rattle.std.proofs.lemmas.Bool.Decides.{nat_tests}
 use Rattle.marks.specs.Kinds.{Header, is_epoch, is_header}
 use Rattle.frames.specs.declared.frame.Frame.{Frame}
-use Rattle.frames.specs.declared.kind.Kind.{Kind}
 use Rattle.frames.specs.declared.kind.Kind.TheVariants.{VoteRow}
-use Rattle.frames.specs.Fields.{FrameFields, is_frame, carries_vote, words_header, epoch_of}
+use Rattle.frames.specs.Fields.{is_frame, carries_vote, words_header, epoch_of}
 use Rattle.frames.specs.Kinds.{kind_number}
 use Rattle.frames.specs.Views.{frame_fields}
 use Rattle.protocol.specs.Exchange.{header_frame, vote_frame, own_row}

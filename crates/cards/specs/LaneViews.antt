@@ -1,5 +1,5 @@
 -- The plain numbers of the frames that wait in each lane.
-use Rattle.std.specs.Prelude.{ℕ, List, map}
+use Rattle.std.specs.Prelude.{map}
 use Rattle.backplane.specs.Lanes.{Lanes, LanesOf}
 use Rattle.frames.specs.Fields.{FrameFields}
 use Rattle.frames.specs.Views.{frame_fields}

@@ -1,5 +1,5 @@
 -- What a call asks of its own card, and what it leaves of it: the card's part of the rack's definitions.
-use Rattle.std.specs.Prelude.{ℕ, cond, not, ◌&&◌, ◌||◌, List, [], ◌∷◌, is_err, Ok, Err, Result, ◌==◌, nat_le}
+use Rattle.std.specs.Prelude.{ℕ, cond, not, ◌&&◌, ◌||◌, [], ◌∷◌, is_err, Ok, Err, Result, ◌==◌, nat_le}
 use Rattle.refusals.specs.declared.Refusal.{Refusal}
 use Rattle.marks.specs.Kinds.{epoch_of}
 use Rattle.marks.specs.Order.{epoch_same}

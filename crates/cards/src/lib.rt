@@ -1,4 +1,6 @@
 // What each call does to its own card.
+#![tactic(auto)]
+
 pub mod booking;
 pub mod exchange;
 pub mod fault;

@@ -1,4 +1,6 @@
 // push and look: rows between cards, over any backplane.
+#![tactic(auto)]
+
 mod rows;
 
 pub use rows::{look, push};

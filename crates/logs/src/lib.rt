@@ -1,4 +1,6 @@
 // A card's log in its part of lent places: `part` is that part, and its first `len` places are used.
+#![tactic(auto)]
+
 mod delivery;
 mod edits;
 mod reads;

@@ -1,4 +1,6 @@
 // Carries out a list of calls, and hands back every answer.
+#![tactic(auto)]
+
 mod calls;
 mod playing;
 mod telling;

@@ -1,4 +1,6 @@
 // The rack: the ten calls over any backplane and any machine.
+#![tactic(auto)]
+
 mod access;
 pub mod booking;
 pub mod carrying;

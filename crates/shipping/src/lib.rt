@@ -1,4 +1,6 @@
 // The card's part of ship: what is due to a peer enters its lane.
+#![tactic(auto)]
+
 ghost use Rattle.std.specs.Prelude.{◌≡◌};
 ghost use Rattle.protocol.specs.declared.answer.Answer.TheVariants.{Count};
 ghost use Rattle.logs.specs.Log.{log_of};

@@ -1,4 +1,4 @@
-use Rattle.std.proofs.Common.{◌≡◌, sym, ap, ◌∙◌}
+use Rattle.std.proofs.Common.{sym, ap, ◌∙◌}
 use Rattle.frames.specs.Made.{frame_from}
 use Rattle.protocol.specs.Exchange.{own_row}
 use Rattle.cards.proofs.OwnRow.{own_other}

@@ -10,14 +10,14 @@ loop-i-init c = copied_none (is_up_to c.args.base) c.args.part.now c.args.part.n
 behind : (c : goal.Then-holds) → c.loop-i.count ≤ c.loop-i.i
 behind c = copied_behind (is_up_to c.args.base) c.args.part.now c.loop-i.i c.args.part.now c.loop-i.part c.loop-i.count c.loop-i.invariant
 
-pub offset-bounds-part-count : goal.offset-bounds-part-count
-offset-bounds-part-count c = let h = behind c in search rules
+pub offset_bounds-part-count : goal.offset_bounds-part-count
+offset_bounds-part-count c = let h = behind c in search rules
 
 pub bounds-part-count : goal.bounds-part-count
 bounds-part-count c = omega (arith, behind c)
 
-pub overflow-add-count : goal.overflow-add-count
-overflow-add-count c = let h = behind c in search rules
+pub overflow_add-count : goal.overflow_add-count
+overflow_add-count c = let h = behind c in search rules
 
 pub loop-i-preserved : goal.loop-i-preserved
 loop-i-preserved c =

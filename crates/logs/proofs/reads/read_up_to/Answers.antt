@@ -9,8 +9,8 @@ returns-then-out-wanted c =
     let d = copy_refused c.args.base c.args.part.now c.args.len c.args.out.now c.count_up_to-wanted.result c.count_up_to-wanted.ensures c.if-out-wanted.true in
     record { answer = d.0; places = d.1 }
 
-pub offset-bounds-out-copied : goal.offset-bounds-out-copied
-offset-bounds-out-copied c =
+pub offset_bounds-out-copied : goal.offset_bounds-out-copied
+offset_bounds-out-copied c =
     let h : c.loop-entry.copied < length c.args.out.now = copy_room c.args.base c.args.part.now c.args.len c.args.out.now c.count_up_to-wanted.result c.count_up_to-wanted.ensures c.used-log.result.now c.loop-entry.entry-index c.loop-entry.out c.loop-entry.copied c.used-log.ensures c.if-out-wanted.false c.loop-entry.invariant c.entry-item.result c.loop-entry-test.true c.entry-item.is c.if-holds.ensures in
     search rules
 
@@ -19,8 +19,8 @@ bounds-out-copied c =
     let h : c.loop-entry.copied < length c.args.out.now = copy_room c.args.base c.args.part.now c.args.len c.args.out.now c.count_up_to-wanted.result c.count_up_to-wanted.ensures c.used-log.result.now c.loop-entry.entry-index c.loop-entry.out c.loop-entry.copied c.used-log.ensures c.if-out-wanted.false c.loop-entry.invariant c.entry-item.result c.loop-entry-test.true c.entry-item.is c.if-holds.ensures in
     omega arith
 
-pub overflow-add-copied : goal.overflow-add-copied
-overflow-add-copied c =
+pub overflow_add-copied : goal.overflow_add-copied
+overflow_add-copied c =
     let h : c.loop-entry.copied < length c.args.out.now = copy_room c.args.base c.args.part.now c.args.len c.args.out.now c.count_up_to-wanted.result c.count_up_to-wanted.ensures c.used-log.result.now c.loop-entry.entry-index c.loop-entry.out c.loop-entry.copied c.used-log.ensures c.if-out-wanted.false c.loop-entry.invariant c.entry-item.result c.loop-entry-test.true c.entry-item.is c.if-holds.ensures in
     search rules
 

@@ -19,8 +19,8 @@ returns-in_default g c =
       room = refl;
     }
 
-pub overflow-add-entries : goal.overflow-add-entries
-overflow-add-entries g c =
+pub overflow_add-entries : goal.overflow_add-entries
+overflow_add-entries g c =
     let few : c.inside_count-entries.result ≤ 1024 = head_few c.args.epoch c.args.base c.inside_count-entries.result c.in-Ok.head c.in-Ok.ensures in
     search rules
 
@@ -55,13 +55,13 @@ send_entries-requires g c =
       room = omega (arith, fits, c.put.ensures.room);
     }
 
-pub overflow-cast-result : goal.overflow-cast-result
-overflow-cast-result g c =
+pub overflow_cast-result : goal.overflow_cast-result
+overflow_cast-result g c =
     let few : c.inside_count-entries.result ≤ 1024 = head_few c.args.epoch c.args.base c.inside_count-entries.result c.in-Ok.head c.in-Ok.ensures in
     search rules
 
-pub overflow-add-result : goal.overflow-add-result
-overflow-add-result g c =
+pub overflow_add-result : goal.overflow_add-result
+overflow_add-result g c =
     let few : c.inside_count-entries.result ≤ 1024 = head_few c.args.epoch c.args.base c.inside_count-entries.result c.in-Ok.head c.in-Ok.ensures in
     search rules
 

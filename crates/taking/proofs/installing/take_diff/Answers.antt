@@ -2,8 +2,8 @@ use Rattle.std.proofs.Common.{refl, rules}
 use Rattle.taking.proofs.Diffs.{diff_stay, diff_room, diff_passed, diff_entered, diff_back}
 use Rattle.taking.proofs.installing.take_diff.Goals as goal
 
-pub overflow-sub-full : goal.overflow-sub-full
-overflow-sub-full g c =
+pub overflow_sub-full : goal.overflow_sub-full
+overflow_sub-full g c =
     let s = c.args.backplane.now in
     diff_stay (g.B.Backplane.count s) (g.B.Backplane.lanes s) c.args.diff c.requires c.args.card.now c.args.part.now c.args.used.now c.count_up_to-stay.result c.count_up_to-stay.ensures
 
