@@ -1,6 +1,6 @@
 -- A posting moves one balance by its amount or nothing at all, and every run keeps all balances within their bounds.
-use Rattle.std.proofs.Common.{◌≡◌, ℕ, ◌<◌, ◌≤◌, Bool, true, false, cond, ◌⊎◌, List, [], ◌∷◌, length, get_or, set, ℤ, pos, ◌+ℤ◌, sym, refl, ap, ◌∙◌, inl, inr, ⊎_elim, get_or-set_other, get_or-set_same}
-use Rattle.std.proofs.lemmas.Bool.{cases_bool, cases_eq, cases_lt, cond-true, cond-false, cond_both}
+use Rattle.std.proofs.Common.{◌≡◌, ℕ, true, ◌⊎◌, List, [], ◌∷◌, length, set, ℤ, pos, ◌+ℤ◌, sym, refl, ap, ◌∙◌, inl, inr, ⊎_elim, get_or-set_other, get_or-set_same}
+use Rattle.std.proofs.lemmas.Bool.{cases_Bool, cases_eq, cases_lt, cond-true, cond-false, cond_both}
 use Rattle.std.proofs.lemmas.List.{set_past}
 use Rattle.machines.specs.Lone.{carried}
 use Rattle.machines.specs.declared.runs.Item.{Item}
@@ -34,7 +34,7 @@ exact_or_none queue p balances carrier =
     (λ moved. inr (moved.0, now_is ∙ moved.1 ∙ ap (λ k. balance_of balances k +ℤ p.cents) (sym moved.0)))
     (stored balances p.carrier sum carrier))
     (λ b. inl (ap (λ s. balance_of s carrier) (cond-false (bearable sum) (set balances p.carrier sum) balances b)))
-    (cases_bool (bearable sum))
+    (cases_Bool (bearable sum))
 
 abbrev Within : List ℤ → Type 0
 Within balances = (k : ℕ) → bearable (balance_of balances k) ≡ true

@@ -1,5 +1,5 @@
 -- What the ledger promises to those who post.
-use Rattle.std.specs.Prelude.{◌≡◌, ℕ, true, ◌⊎◌, List, [], ◌∷◌, replicate, ℤ, negsuc, ◌+ℤ◌, Some}
+use Rattle.std.specs.Prelude.{◌≡◌, ℕ, true, ◌⊎◌, List, ◌∷◌, replicate, ℤ, negsuc, ◌+ℤ◌, Some}
 use Rattle.frames.specs.Fields.{fields_of}
 use Rattle.frames.specs.Slot.{slot_of}
 use Rattle.std.specs.Option.{option_map}

@@ -1,5 +1,5 @@
 -- A posting is fixed by its two fields, and is made exactly from fields within the ranges.
-use Rattle.std.specs.Prelude.{◌≡◌, ℕ, Bool, true, ℤ, Some}
+use Rattle.std.specs.Prelude.{◌≡◌, ℕ, true, ℤ, Some}
 use Rattle.std.proofs.Common.{ap}
 use Rattle.std.proofs.Math.Bool.{Bool-set}
 use Rattle.machines.proofs.Guarded.{whenever_true}

@@ -1,9 +1,9 @@
 -- The two laws of the packing, of the ledger.
-use Rattle.std.specs.Prelude.{◌≡◌, ℕ, ◌<◌, Bool, true, false, cond, ◌&&◌, ℤ, pos, negsuc, ◌+ℤ◌, ◌-ℤ◌, Some, None, ◌==◌, ◌≢◌, int_le, nat_lt, unsigned_abs, refl}
+use Rattle.std.specs.Prelude.{◌≡◌, ℕ, ◌<◌, true, cond, ◌&&◌, ℤ, pos, negsuc, ◌+ℤ◌, ◌-ℤ◌, Some, None, ◌==◌, ◌≢◌, int_le, nat_lt, unsigned_abs}
 use Rattle.std.proofs.Common.{sym, ap, ◌∙◌, ⊎_elim, arith}
 use Rattle.std.specs.Option.{unwrap_or}
 use Rattle.std.proofs.lemmas.Int.{ints}
-use Rattle.std.proofs.lemmas.Bool.{cases_bool, and_parts, lt-ltb, ltb-true, eqb-true, cond-true, cond-false}
+use Rattle.std.proofs.lemmas.Bool.{cases_Bool, and_parts, lt-ltb, eqb-true, cond-true, cond-false}
 use Rattle.machines.proofs.Guarded.{whenever_false}
 use Rattle.ledger.specs.Ranges.{postable}
 use Rattle.ledger.specs.Postings.{drafted, blank_posting, packed, unpacked}
@@ -48,6 +48,6 @@ other w none =
     ∙ ⊎_elim
     (λ h. absurd (none (posting w.0 cents h) (ap (λ a. (w.0, a, 0)) (again w.1) ∙ ap (λ b. (w.0, w.1, b)) (sym (eqb-true w.2 0 (and_parts _ _ e).1)))))
     (λ h. ap (λ o. unwrap_or o blank_posting) (whenever_false (postable w.0 cents) (λ t. Some (posting w.0 cents t)) None h))
-    (cases_bool (postable w.0 cents)))
+    (cases_Bool (postable w.0 cents)))
     (λ e. cond-false (nat_lt w.1 4294967296 && w.2 == 0) made blank_posting e)
-    (cases_bool (nat_lt w.1 4294967296 && w.2 == 0))
+    (cases_Bool (nat_lt w.1 4294967296 && w.2 == 0))

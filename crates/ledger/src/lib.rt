@@ -1,4 +1,6 @@
 // The carrier ledger: 32 balances in cents, changed by postings.
+#![tactic(auto)]
+
 mod accounts;
 mod balances;
 mod making;

@@ -22,7 +22,7 @@ pub fn sample_words() -> Words
     ensures law { SampleWords }
     ensures slot { SampleSlot }
 {
-    <Ledger as machines::Machine>::pack(Posting {
+    <Ledger as Machine>::pack(Posting {
         carrier: 2,
         cents: -500,
     })

@@ -1,4 +1,6 @@
 // A desk over one board and one ledger: each line of input is a payload, each line of output what was applied and what now stands.
+#![tactic(auto)]
+
 mod desk;
 mod numbers;
 mod replies;

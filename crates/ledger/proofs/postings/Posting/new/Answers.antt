@@ -1,12 +1,11 @@
-use Rattle.std.proofs.Common.{◌≡◌, true, ℤ, sym, ap, ◌∙◌, w64, SFits}
+use Rattle.std.proofs.Common.{sym, ap, ◌∙◌, w64}
 use Rattle.std.proofs.lemmas.Int.{to_z-of_z}
 use Rattle.refusals.specs.declared.Refusal.TheVariants.{OutOfRange}
 use Rattle.std.specs.Option.{ok_or}
-use Rattle.ledger.specs.Ranges.{postable}
 use Rattle.ledger.specs.Postings.{drafted}
 use Rattle.ledger.specs.Made.{drafted_is}
 use Rattle.ledger.proofs.postings.Posting.new.Goals as goal
 
-pub returns-then-in-range : goal.returns-then-in-range
-returns-then-in-range c =
+pub returns-then-in_range : goal.returns-then-in_range
+returns-then-in_range c =
     sym (ap (λ o. ok_or o OutOfRange) (ap (λ z. drafted (c.args.carrier, z)) (sym (to_z-of_z w64 c.args.cents c.ranges.cents)) ∙ drafted_is c.args.carrier _ _))
