@@ -1,14 +1,11 @@
 -- What stands as the past grows: histories, what is chosen, rows, frames, parcels, and the cards that did not act.
-use Rattle.std.proofs.Common.{◌≡◌, ℕ, zero, suc, ◌+◌, ◌-◌, ◌*◌, ◌/◌, ◌%◌, ◌<◌, ◌≤◌, Bool, true, false, cond, not, ◌&&◌, ◌||◌, eqb, ltb, leb, List, [], ◌∷◌, ◌++◌, map, length, get_or, take, drop, filter, sym, refl, ap, ◌∙◌, subst, arith}
-use Rattle.std.specs.List.{AllByRecursion as All}
+use Rattle.std.proofs.Common.{◌≡◌, ℕ, suc, ◌<◌, ◌≤◌, true, ltb, List, [], ◌∷◌, ◌++◌, length, take, filter, sym, ap, ◌∙◌, subst, arith}
 use Rattle.std.proofs.ByRecursion.{All-weaker}
 use Rattle.std.proofs.lemmas.Bool.{ltb-true, lt-ltb}
 use Rattle.marks.specs.Kinds.{Epoch, Header, Vote}
 use Rattle.frames.specs.Fields.{EntryFields, FrameFields}
-use Rattle.protocol.specs.Rows.{majority}
-use Rattle.protocol.specs.Rack.{is_leader}
 use Rattle.protocol.specs.declared.peers.PeerRow.{PeerRow}
-use Rattle.laws.proofs.Base.{en, hn, Up, Lt, how_many, how_many_mono, one_of, leader_num}
+use Rattle.laws.proofs.Base.{en, hn, Up, how_many_mono, one_of, leader_num}
 use Rattle.laws.proofs.Inv.{Past, hist, Chosen, Sound, View, CardOk, AcceptOk, VoteOk, CommitOk, RowOk, FrameOk, Parcel, message, diff, MessageOk, DiffOk, ParcelOk, Waiting, Grows, Still}
 use Rattle.laws.proofs.Past.{Meets}
 

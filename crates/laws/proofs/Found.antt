@@ -1,22 +1,22 @@
 -- What the search for a header finds in a card's log, and what the filters on its log leave.
-use Rattle.std.proofs.Common.{◌≡◌, ℕ, zero, suc, ◌+◌, ◌-◌, ◌*◌, ◌/◌, ◌%◌, ◌<◌, ◌≤◌, Bool, true, false, cond, not, ◌&&◌, ◌||◌, eqb, ltb, leb, ◌⊎◌, List, [], ◌∷◌, ◌++◌, map, length, get_or, take, drop, set, Some, None, filter, Option, sym, refl, ap, ◌∙◌, subst, inl, inr, ⊎_elim, arith}
+use Rattle.std.proofs.Common.{◌≡◌, ℕ, zero, suc, ◌+◌, ◌*◌, ◌<◌, ◌≤◌, Bool, true, false, cond, ◌&&◌, List, [], ◌∷◌, ◌++◌, length, take, Some, None, filter, Option, sym, refl, ap, ◌∙◌, subst, ⊎_elim, arith}
 use Rattle.std.specs.List.{AllByRecursion as All}
 use Rattle.std.specs.Option.{option_or}
 use Rattle.std.proofs.lemmas.List.Elements.{filter-append}
 use Rattle.std.proofs.ByRecursion.{All-append, All-weaker}
-use Rattle.std.proofs.lemmas.List.{append_assoc, append-nil, take-take, length-take}
+use Rattle.std.proofs.lemmas.List.{append-nil, take-take, length-take}
 use Rattle.std.proofs.lemmas.Bool.Decides.{nat_tests}
-use Rattle.std.proofs.lemmas.Bool.{true≢false, and_parts, and_right, eqb-true}
+use Rattle.std.proofs.lemmas.Bool.{and_parts, and_right, eqb-true}
 use Rattle.marks.specs.Orders.{header_order}
-use Rattle.marks.specs.Kinds.{Epoch, Header, epoch_of}
+use Rattle.marks.specs.Kinds.{Header}
 use Rattle.marks.specs.Order.{header_below, header_up_to}
 use Rattle.frames.specs.Fields.{EntryFields}
-use Rattle.protocol.specs.Booking.{is_header, entry_at, inside, diff_entries}
+use Rattle.protocol.specs.Booking.{is_header, entry_at, inside}
 use Rattle.protocol.specs.Committing.{last_header}
-use Rattle.laws.proofs.Base.{en, hn, Up, Lt, kept_all, kept_none, below_header, not_below_header, upto_header, not_upto_header}
-use Rattle.laws.proofs.Inv.{Past, hist, Numbered, Before, UpTo, Beyond, Sound, View, CardOk}
+use Rattle.laws.proofs.Base.{hn, kept_all, kept_none, below_header, not_below_header}
+use Rattle.laws.proofs.Inv.{Past, hist, Numbered, Before, Beyond, Sound}
 use Rattle.laws.specs.Laws.{Rising}
-use Rattle.laws.proofs.Past.{numbered_front, sent_later, hist_upto, hist_rising}
+use Rattle.laws.proofs.Past.{numbered_front, sent_later}
 
 -- what is found has the header, and is one of the entries
 pub found_one : (Q : EntryFields → Type 0) (h : Header) (xs : List EntryFields) (x : EntryFields) → All Q xs → entry_at h xs ≡ Some x → Q x × (x.header ≡ h)

@@ -1,5 +1,5 @@
 -- What the proof remembers of a run, and what holds at every moment.
-use Rattle.std.proofs.Common.{◌≡◌, ℕ, zero, suc, ◌+◌, ◌-◌, ◌*◌, ◌/◌, ◌%◌, ◌<◌, ◌≤◌, Bool, true, false, cond, not, ◌&&◌, ◌||◌, eqb, ltb, leb, ◌⊎◌, List, [], ◌∷◌, ◌++◌, map, length, get_or, take, drop, filter}
+use Rattle.std.proofs.Common.{◌≡◌, ℕ, suc, ◌-◌, ◌/◌, ◌%◌, ◌<◌, ◌≤◌, Bool, true, false, ltb, List, [], ◌∷◌, ◌++◌, length, get_or, take, filter}
 use Rattle.std.specs.List.{AllByRecursion as All}
 use Rattle.marks.specs.Kinds.{Epoch, Header, Vote, epoch_of}
 use Rattle.marks.specs.Order.{header_below}

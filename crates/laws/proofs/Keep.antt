@@ -1,20 +1,15 @@
 -- How a call that one card carries out keeps the invariant.
-use Rattle.std.proofs.Common.{◌≡◌, ℕ, zero, suc, ◌+◌, ◌-◌, ◌*◌, ◌/◌, ◌%◌, ◌<◌, ◌≤◌, Bool, true, false, cond, not, ◌&&◌, ◌||◌, eqb, ltb, leb, ◌⊎◌, List, [], ◌∷◌, ◌++◌, map, length, get_or, take, drop, set, Ok, Err, filter, sym, refl, ap, ◌∙◌, subst, inl, inr, ⊎_elim, arith}
+use Rattle.std.proofs.Common.{◌≡◌, ℕ, zero, suc, ◌+◌, ◌≤◌, Bool, true, false, cond, ◌&&◌, leb, List, [], ◌∷◌, get_or, sym, refl, ◌∙◌, subst, ⊎_elim, arith}
 use Rattle.std.specs.List.{AllByRecursion as All}
-use Rattle.std.proofs.ByRecursion.{All-weaker, All-take, All-set, All-map, All-from_get_or}
-use Rattle.std.proofs.lemmas.Bool.{cases_eq, and_parts, leb-true, eqb-true, true≢false, not-false}
-use Rattle.refusals.specs.declared.Refusal.{Refusal}
-use Rattle.marks.specs.Kinds.{Epoch, Header, Vote}
+use Rattle.std.proofs.ByRecursion.{All-weaker}
+use Rattle.std.proofs.lemmas.Bool.{cases_eq, and_parts, leb-true, true≢false, not-false}
 use Rattle.marks.specs.Rows.{largest_of, count_between}
-use Rattle.frames.specs.Fields.{EntryFields, FrameFields}
-use Rattle.protocol.specs.Rows.{majority, blank_row, rows_of}
-use Rattle.protocol.specs.Rack.{Sizes, State, Reply, at, at_lane, ask, no_card, no_peer}
-use Rattle.protocol.specs.declared.answer.Answer.{Answer}
+use Rattle.frames.specs.Fields.{EntryFields}
+use Rattle.protocol.specs.Rows.{blank_row, rows_of}
+use Rattle.protocol.specs.Rack.{Sizes, State, at, at_lane, no_card}
 use Rattle.protocol.specs.declared.card.Card.{Card}
-use Rattle.protocol.specs.declared.peers.PeerRow.{PeerRow}
-use Rattle.protocol.proofs.Asked.{Passed}
-use Rattle.laws.proofs.Base.{en, hn, Up, Lt, how_many, at_same, at_other, at_all}
-use Rattle.laws.proofs.Inv.{Past, Sound, View, view, CardOk, RowOk, FrameOk, Waiting, Inv, Grows, Still}
+use Rattle.laws.proofs.Base.{how_many, at_other, at_all}
+use Rattle.laws.proofs.Inv.{Past, Sound, view, CardOk, RowOk, FrameOk, Waiting, Inv, Grows, Still}
 use Rattle.laws.proofs.Past.{Meets}
 use Rattle.laws.proofs.Carry.{card_keeps, row_keeps, frame_keeps, waiting_keeps}
 

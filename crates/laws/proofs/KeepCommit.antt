@@ -1,21 +1,19 @@
 -- commit keeps the invariant, with what it delivers added to the card's list.
-use Rattle.std.proofs.Common.{◌≡◌, ℕ, zero, suc, ◌+◌, ◌-◌, ◌*◌, ◌/◌, ◌%◌, ◌<◌, ◌≤◌, Bool, true, false, cond, not, ◌&&◌, ◌||◌, eqb, ltb, leb, ◌⊎◌, List, [], ◌∷◌, ◌++◌, map, length, get_or, take, drop, set, Some, None, filter, Option, sym, refl, ap, ◌∙◌, subst, inl, inr, ⊎_elim, arith}
+use Rattle.std.proofs.Common.{◌≡◌, ℕ, suc, ◌+◌, ◌<◌, ◌≤◌, Bool, true, false, cond, not, ◌&&◌, eqb, ltb, leb, List, [], ◌∷◌, ◌++◌, length, take, Some, None, filter, Option, sym, refl, ap, ◌∙◌, subst, arith}
 use Rattle.std.specs.List.{AllByRecursion as All}
-use Rattle.std.proofs.ByRecursion.{All-append, All-weaker}
+use Rattle.std.proofs.ByRecursion.{All-weaker}
 use Rattle.std.proofs.lemmas.List.{append_assoc, append-nil}
-use Rattle.std.proofs.lemmas.Bool.{true≢false, not-false, not-true, eqb-true, eqb-false, and_parts, leb-true, lt-ltb}
+use Rattle.std.proofs.lemmas.Bool.{true≢false, not-false, eqb-true, eqb-false, and_parts, leb-true, lt-ltb}
 use Rattle.marks.specs.Kinds.{Epoch, Header, epoch_of}
 use Rattle.marks.specs.Order.{header_below, header_up_to}
-use Rattle.marks.specs.Rows.{count_between}
 use Rattle.frames.specs.Fields.{Words, EntryFields}
 use Rattle.protocol.specs.Rows.{majority, row_of, accept_of, accept_rows}
-use Rattle.protocol.specs.Rack.{Sizes, State, at, is_electing, is_leader}
-use Rattle.protocol.specs.Booking.{place_after, entry_at, inside}
+use Rattle.protocol.specs.Rack.{Sizes, State, is_leader}
+use Rattle.protocol.specs.Booking.{entry_at, inside}
 use Rattle.protocol.specs.Committing.{last_of_epoch, reached, supported, one_or_none, opens_epoch, due_entries, last_header, committed_to, commit_checks, committed}
 use Rattle.protocol.specs.declared.card.Card.{Card}
-use Rattle.protocol.specs.declared.peers.PeerRow.{PeerRow}
 use Rattle.laws.specs.Laws.{Rising}
-use Rattle.laws.proofs.Base.{en, hn, Up, Lt, how_many, at_same, at_other, header_upto, below_header, not_upto_header}
+use Rattle.laws.proofs.Base.{en, hn, Up, Lt, at_same, at_other, header_upto, below_header, not_upto_header}
 use Rattle.laws.proofs.Inv.{Past, hist, Chosen, Before, UpTo, Beyond, Sound, View, view, CardOk, AcceptOk, RowOk, Inv}
 use Rattle.laws.proofs.Past.{Meets, Starts, begins, hist_upto, hist_rising}
 use Rattle.laws.proofs.Carry.{chosen_won, chosen_less}
@@ -23,7 +21,7 @@ use Rattle.laws.proofs.Moves.{marked, marked_grows, marked_still, marked_sound}
 use Rattle.protocol.proofs.Asked.{Passed}
 use Rattle.laws.proofs.Keep.{acted, frames_keep, waits_keep, rows_keep, count_bound}
 use Rattle.laws.proofs.Tables.{row_ok, peer_row}
-use Rattle.laws.proofs.KeepVoting.{Kept, acc_num, acc_led, up_trans}
+use Rattle.laws.proofs.KeepVoting.{Kept, acc_num, acc_led}
 use Rattle.laws.proofs.Found.{InLog, in_log, inside_start, keeps_first, keeps_second, last_of, last_append, upto_not_below, rising_last}
 
 lt_from : {a b c d e f : ℕ} → Up a b c d → Lt c d e f → Lt a b e f

@@ -1,9 +1,9 @@
 -- push, look and stop keep the invariant.
-use Rattle.std.proofs.Common.{◌≡◌, ℕ, zero, suc, ◌+◌, ◌-◌, ◌*◌, ◌/◌, ◌%◌, ◌<◌, ◌≤◌, Bool, true, false, cond, not, ◌&&◌, ◌||◌, eqb, ltb, leb, ◌⊎◌, List, [], ◌∷◌, ◌++◌, map, length, get_or, take, drop, set, filter, sym, refl, ap, ◌∙◌, subst, inl, inr, ⊎_elim, arith}
+use Rattle.std.proofs.Common.{◌≡◌, ℕ, suc, ◌-◌, ◌≤◌, Bool, true, false, cond, not, ◌&&◌, eqb, leb, ◌⊎◌, List, [], ◌∷◌, ◌++◌, length, get_or, drop, sym, refl, ap, subst, inl, inr, arith}
 use Rattle.std.specs.List.{AllByRecursion as All}
 use Rattle.std.proofs.ByRecursion.{All-drop, All-push}
 use Rattle.std.proofs.lemmas.Bool.{true≢false, not-false, eqb-true, eqb-false, and_parts, leb-true}
-use Rattle.marks.specs.Kinds.{Epoch, Header, epoch_of}
+use Rattle.marks.specs.Kinds.{epoch_of}
 use Rattle.marks.specs.Order.{epoch_same}
 use Rattle.frames.specs.Fields as fields
 use Rattle.frames.specs.Fields.{EntryFields, FrameFields}
@@ -11,11 +11,10 @@ use Rattle.protocol.specs.Rows.{blank_row, row_of, store_accept, store_vote, sto
 use Rattle.protocol.specs.Rack.{Sizes, State, with_card, is_row_kind}
 use Rattle.protocol.specs.Booking.{with_peers}
 use Rattle.protocol.specs.Taking.{front}
-use Rattle.protocol.specs.Exchange.{own_row, push_checks, pushed, stored, look_checks, looked, stopped_card, stop_checks}
+use Rattle.protocol.specs.Exchange.{own_row, push_checks, pushed, stored, look_checks, looked, stopped_card}
 use Rattle.protocol.specs.declared.card.Card.{Card}
-use Rattle.protocol.specs.declared.peers.PeerTable.{PeerTable}
 use Rattle.laws.proofs.Base.{en, hn, at_same, at_other}
-use Rattle.laws.proofs.Inv.{Past, Sound, view, CardOk, AcceptOk, VoteOk, CommitOk, RowOk, FrameOk, Waiting, Inv}
+use Rattle.laws.proofs.Inv.{Past, view, CardOk, AcceptOk, VoteOk, CommitOk, RowOk, FrameOk, Waiting, Inv}
 use Rattle.laws.proofs.Past.{Meets}
 use Rattle.protocol.proofs.Asked.{Passed}
 use Rattle.laws.proofs.Keep.{same_grows, same_still, acted, lane_all, lane_other}

@@ -1,12 +1,11 @@
 -- A card that accepts up to a header, in its epoch or a later one: win, submit, and both ways of take.
-use Rattle.std.proofs.Common.{◌≡◌, ℕ, zero, suc, ◌+◌, ◌-◌, ◌*◌, ◌/◌, ◌%◌, ◌<◌, ◌≤◌, Bool, true, false, cond, not, ◌&&◌, ◌||◌, eqb, ltb, leb, ◌⊎◌, List, [], ◌∷◌, ◌++◌, map, length, get_or, take, drop, set, filter, sym, refl, ap, ◌∙◌, subst, inl, inr, ⊎_elim, arith}
-use Rattle.std.specs.List.{AllByRecursion as All}
+use Rattle.std.proofs.Common.{◌≡◌, ℕ, suc, ◌%◌, ◌<◌, ◌≤◌, true, false, List, ◌++◌, length, take, sym, refl, ap, ◌∙◌, subst, arith}
 use Rattle.std.proofs.lemmas.Bool.{true≢false}
-use Rattle.marks.specs.Kinds.{Epoch, Header, Vote, epoch_of}
+use Rattle.marks.specs.Kinds.{Epoch, Header, epoch_of}
 use Rattle.frames.specs.Fields.{EntryFields}
 use Rattle.protocol.specs.Rack.{is_electing, is_leader, at}
 use Rattle.protocol.specs.declared.card.Role.{Role}
-use Rattle.laws.proofs.Base.{en, hn, Up, Lt, how_many, at_same, at_all}
+use Rattle.laws.proofs.Base.{en, Up, at_same, at_all}
 use Rattle.laws.proofs.Inv.{Past, hist, Chosen, WonFrom, Sound, View, CardOk, Grows}
 use Rattle.laws.proofs.Past.{Meets}
 use Rattle.laws.proofs.Carry.{hist_keeps, chosen_keeps, chosen_won, chosen_sent}

@@ -1,21 +1,20 @@
 -- ship keeps the invariant.
-use Rattle.std.proofs.Common.{◌≡◌, ℕ, zero, suc, ◌+◌, ◌-◌, ◌*◌, ◌/◌, ◌%◌, ◌<◌, ◌≤◌, Bool, true, false, cond, not, ◌&&◌, ◌||◌, eqb, ltb, leb, ◌⊎◌, List, [], ◌∷◌, ◌++◌, map, length, get_or, take, drop, set, Some, None, filter, Option, sym, refl, ap, ◌∙◌, subst, inl, inr, ⊎_elim, arith}
+use Rattle.std.proofs.Common.{◌≡◌, ℕ, suc, ◌+◌, ◌-◌, ◌*◌, ◌<◌, ◌≤◌, true, false, ◌||◌, eqb, List, [], ◌∷◌, ◌++◌, map, length, get_or, take, Some, None, filter, Option, sym, refl, ap, ◌∙◌, subst, arith}
 use Rattle.std.specs.List.{AllByRecursion as All}
 use Rattle.std.proofs.ByRecursion.{All-append}
 use Rattle.std.proofs.lemmas.List.{append_assoc, append-nil}
 use Rattle.std.proofs.lemmas.Bool.{true≢false, not-false, eqb-false, or_parts}
-use Rattle.marks.specs.Kinds.{Epoch, Header, epoch_of}
+use Rattle.marks.specs.Kinds.{Header}
 use Rattle.frames.specs.Fields.{EntryFields, FrameFields}
 use Rattle.protocol.specs.Rows.{blank_row, row_of, mark_shipped}
-use Rattle.protocol.specs.Rack.{Sizes, State, at, at_lane, is_electing, is_leader, no_card, no_peer}
-use Rattle.protocol.specs.Booking.{entry_frame, entry_at, inside, diff_entries, diff_frames, message_frames, shipment, shipped_after, shipment_to, with_peers, ship_checks, shipped}
+use Rattle.protocol.specs.Rack.{Sizes, State, is_leader, no_card, no_peer}
+use Rattle.protocol.specs.Booking.{entry_frame, entry_at, inside, diff_entries, message_frames, shipment, shipped_after, shipment_to, with_peers, ship_checks, shipped}
 use Rattle.protocol.specs.declared.card.Card.{Card}
-use Rattle.protocol.specs.declared.peers.PeerRow.{PeerRow}
 use Rattle.laws.proofs.Base.{en, hn, at_same, at_other}
-use Rattle.laws.proofs.Inv.{Past, hist, Sound, View, view, CardOk, RowOk, CommitOk, FrameOk, Parcel, message, diff, frames_of, laid, MessageOk, DiffOk, ParcelOk, Waiting, Inv, Grows}
+use Rattle.laws.proofs.Inv.{Past, hist, view, CardOk, RowOk, FrameOk, Parcel, message, diff, frames_of, laid, MessageOk, ParcelOk, Waiting, Inv}
 use Rattle.laws.proofs.Past.{Meets}
 use Rattle.protocol.proofs.Asked.{Passed}
-use Rattle.laws.proofs.Keep.{card_within, same_grows, same_still, Acted, acted, lane_all, lane_zero}
+use Rattle.laws.proofs.Keep.{card_within, same_grows, same_still, acted, lane_all, lane_zero}
 use Rattle.laws.proofs.Tables.{row_ok, ship_ok}
 use Rattle.laws.proofs.KeepVoting.{Kept}
 use Rattle.laws.proofs.Found.{InLog, in_log, inside_start}

@@ -1,16 +1,15 @@
 -- submit keeps the invariant.
-use Rattle.std.proofs.Common.{◌≡◌, ℕ, zero, suc, ◌+◌, ◌-◌, ◌*◌, ◌/◌, ◌%◌, ◌<◌, ◌≤◌, Bool, true, false, cond, not, ◌&&◌, ◌||◌, eqb, ltb, leb, ◌⊎◌, List, [], ◌∷◌, ◌++◌, map, length, get_or, take, drop, set, filter, sym, refl, ap, ◌∙◌, subst, inl, inr, ⊎_elim, arith}
-use Rattle.std.specs.List.{AllByRecursion as All}
+use Rattle.std.proofs.Common.{◌≡◌, ℕ, ◌+◌, ◌/◌, ◌%◌, ◌<◌, true, false, List, [], ◌∷◌, ◌++◌, length, take, sym, refl, ap, ◌∙◌, arith}
 use Rattle.std.proofs.lemmas.List.{append_assoc, length_push, take-append-le, take_all}
 use Rattle.std.proofs.lemmas.Bool.{true≢false, not-false}
-use Rattle.marks.specs.Kinds.{Epoch, Header, epoch_of}
+use Rattle.marks.specs.Kinds.{Epoch}
 use Rattle.frames.specs.Fields.{Words, EntryFields}
-use Rattle.protocol.specs.Rack.{Sizes, State, at, is_electing, is_leader}
+use Rattle.protocol.specs.Rack.{Sizes, State, is_electing, is_leader}
 use Rattle.protocol.specs.Booking.{place_after, booked, accepted_up_to, submit_checks, submitted}
 use Rattle.protocol.specs.declared.card.Role.{Role}
 use Rattle.protocol.specs.declared.card.Role.TheVariants.{Electing, Leader, Follower}
-use Rattle.laws.proofs.Base.{en, hn, Up, at_same, at_other, leader_num, round_num}
-use Rattle.laws.proofs.Inv.{Past, hist, Numbered, Sound, View, view, CardOk, Inv, Grows}
+use Rattle.laws.proofs.Base.{en, at_same, at_other, leader_num, round_num}
+use Rattle.laws.proofs.Inv.{Past, Numbered, view, CardOk, Inv}
 use Rattle.laws.proofs.Past.{Meets, numbered_more}
 use Rattle.laws.proofs.Moves.{moved, Move, moved_grows, moved_sound, moved_still}
 use Rattle.protocol.proofs.Asked.{Passed}

@@ -1,26 +1,26 @@
 -- take keeps the invariant: what it finds in front is a whole message or diff.
-use Rattle.std.proofs.Common.{◌≡◌, ℕ, zero, suc, ◌+◌, ◌-◌, ◌*◌, ◌/◌, ◌%◌, ◌<◌, ◌≤◌, Bool, true, false, cond, not, ◌&&◌, ◌||◌, eqb, ltb, leb, ◌⊎◌, List, [], ◌∷◌, ◌++◌, map, length, get_or, take, drop, set, filter, sym, refl, ap, ◌∙◌, subst, inl, inr, ⊎_elim, arith}
+use Rattle.std.proofs.Common.{◌≡◌, ℕ, suc, ◌+◌, ◌-◌, ◌<◌, ◌≤◌, Bool, true, false, cond, not, ◌&&◌, eqb, List, [], ◌∷◌, ◌++◌, map, length, get_or, take, drop, filter, sym, refl, ap, ◌∙◌, subst, ⊎_elim, arith}
 use Rattle.std.specs.List.{AllByRecursion as All}
 use Rattle.std.proofs.ByRecursion.{All-drop, All-weaker}
 use Rattle.std.proofs.lemmas.List.{append_assoc, append-nil, drop_at, take_at, length-map}
-use Rattle.std.proofs.lemmas.Bool.{true≢false, not-true, not-false, eqb-true, and_parts, cases_bool, cases_lt, eq-eqb, ltb-false}
+use Rattle.std.proofs.lemmas.Bool.{true≢false, not-true, not-false, eqb-true, and_parts, cases_Bool, cases_lt, eq-eqb, ltb-false}
 use Rattle.std.proofs.lemmas.Bool.Decides.{nat_tests}
 use Rattle.marks.specs.Kinds.{Epoch, Header, epoch_of}
-use Rattle.marks.specs.Order.{left_first, epoch_below, epoch_same, header_below, header_up_to}
-use Rattle.frames.specs.Fields.{EntryFields, FrameFields, header_of, words_header}
+use Rattle.marks.specs.Order.{epoch_same, header_below, header_up_to}
+use Rattle.frames.specs.Fields.{EntryFields, FrameFields}
 use Rattle.protocol.specs.Rows.{blank_row}
-use Rattle.protocol.specs.Rack.{Sizes, State, at, at_lane, is_electing, is_leader, no_peer}
+use Rattle.protocol.specs.Rack.{Sizes, State, at_lane, is_electing}
 use Rattle.protocol.specs.Booking.{accepted_up_to, entry_frame, diff_frames}
-use Rattle.protocol.specs.Taking.{front, body_of, front_size, too_low, follows, in_turn, entry_of, kept_up_to, log_after, entered_by, taken_by, take_checks, passed_over, entered, taken}
+use Rattle.protocol.specs.Taking.{front, body_of, front_size, too_low, in_turn, entry_of, kept_up_to, log_after, entered_by, taken_by, take_checks, passed_over, entered, taken}
 use Rattle.protocol.specs.declared.card.Card.{Card}
 use Rattle.protocol.specs.declared.card.Role.TheVariants.{Follower}
-use Rattle.laws.proofs.Base.{en, hn, Up, Lt, at_same, at_other, below_num, same_num, upto_header, not_upto_header, below_header, not_below_header, and_second}
+use Rattle.laws.proofs.Base.{en, hn, Up, at_same, at_other, below_num, same_num, upto_header, not_upto_header, below_header, not_below_header, and_second}
 use Rattle.laws.proofs.Inv.{Past, hist, Chosen, UpTo, Beyond, Sound, View, view, CardOk, RowOk, CommitOk, FrameOk, Parcel, message, diff, frames_of, laid, MessageOk, DiffOk, ParcelOk, Waiting, Inv, Grows}
 use Rattle.laws.proofs.Past.{Meets, Starts, begins, hist_upto}
 use Rattle.laws.proofs.Carry.{chosen_won, frame_keeps, waiting_keeps}
 use Rattle.laws.proofs.Moves.{moved, Move, moved_grows, moved_sound, moved_still}
 use Rattle.protocol.proofs.Asked.{Passed}
-use Rattle.laws.proofs.Keep.{same_grows, Acted, acted, frames_keep, waits_keep, rows_keep, lane_all, lane_zero}
+use Rattle.laws.proofs.Keep.{same_grows, acted, rows_keep, lane_all, lane_zero}
 use Rattle.laws.proofs.KeepVoting.{Kept, accepted_most, acc_num}
 use Rattle.laws.proofs.KeepShip.{peer_place, peers_differ}
 use Rattle.laws.proofs.KeepMoved.{moved_card, move_within}
@@ -163,7 +163,7 @@ module _ {S : Type 0} (z : Sizes) (meets : Meets z.cards) (H : Past) (s : State 
         above = omega (arith, num, M.leader, peer_place z i j p.0)
 
         settled : is_electing (s.cards i).role ≡ false
-        settled = ⊎_elim (λ t. absurd (omega (arith, ap en entered_is, above, C.voting_above t (omega (arith, ap en entered_is, above))))) (λ t. t) (cases_bool (is_electing (s.cards i).role))
+        settled = ⊎_elim (λ t. absurd (omega (arith, ap en entered_is, above, C.voting_above t (omega (arith, ap en entered_is, above))))) (λ t. t) (cases_Bool (is_electing (s.cards i).role))
 
         move : Move H z.cards i (en (s.cards i).current) x.header.2 (H.start (en (s.cards i).current)) (H.sent (en (s.cards i).current))
         move = move_within H z.cards i (en (s.cards i).current) x.header.2 (H.sent (en (s.cards i).current)) I.sound C.cur_won above (omega arith) (λ _ _. refl) (subst (λ m. x.header.2 ≤ length (H.sent m)) num M.sent) (omega (arith, C.top_cur, tests.2)) (I.sound.numbered _ C.cur_won) (λ y c. omega (arith, C.cast_below y c, ap en entered_is)) (λ _. refl)

@@ -1,31 +1,28 @@
 -- timeout, elect and win keep the invariant.
-use Rattle.std.proofs.Common.{◌≡◌, ℕ, zero, suc, ◌+◌, ◌-◌, ◌*◌, ◌/◌, ◌%◌, ◌<◌, ◌≤◌, Bool, true, false, cond, not, ◌&&◌, ◌||◌, eqb, ltb, leb, ◌⊎◌, List, [], ◌∷◌, ◌++◌, map, length, get_or, take, drop, set, is_err, Ok, Err, filter, Result, sym, refl, ap, ◌∙◌, subst, inl, inr, ⊎_elim, arith}
+use Rattle.std.proofs.Common.{◌≡◌, ℕ, suc, ◌+◌, ◌-◌, ◌*◌, ◌%◌, ◌<◌, ◌≤◌, Bool, true, false, cond, ◌&&◌, eqb, ltb, leb, List, is_err, Ok, Err, Result, sym, refl, ap, ◌∙◌, subst, inl, inr, ⊎_elim, arith}
 use Rattle.std.specs.Result.{result_unwrap_or}
 use Rattle.std.specs.List.{AllByRecursion as All}
 use Rattle.std.proofs.lemmas.Bool.Decides.{nat_tests}
-use Rattle.std.proofs.ByRecursion.{All-weaker, All-take, All-set, All-map, All-from_get_or}
-use Rattle.std.proofs.lemmas.Bool.{cases_eq, and_parts, leb-true, eqb-true, true≢false, not-false, ltb-true, ltb-false, leb-false, not-true, cases_order}
+use Rattle.std.proofs.lemmas.Bool.{and_parts, leb-true, true≢false, not-false, ltb-true, leb-false, not-true, cases_order}
 use Rattle.refusals.specs.declared.Refusal.{Refusal}
 use Rattle.refusals.specs.declared.Refusal.TheVariants.{NoSuchCard, UsedUp}
-use Rattle.marks.specs.Kinds.{Epoch, Header, Vote, epoch_of}
+use Rattle.marks.specs.Kinds.{Epoch, Header, Vote}
 use Rattle.marks.specs.Least.{least_epoch}
 use Rattle.marks.specs.Orders.{vote_order}
-use Rattle.marks.specs.Order.{left_first, epoch_up_to, header_below, header_up_to, vote_up_to}
-use Rattle.marks.specs.Rows.{largest_of, count_between}
-use Rattle.frames.specs.Fields.{EntryFields, FrameFields}
-use Rattle.protocol.specs.Rows.{majority, blank_row, row_of, vote_of, vote_rows}
-use Rattle.protocol.specs.Rack.{Sizes, State, at, with_card, no_card, is_electing, is_leader}
-use Rattle.protocol.specs.Voting.{largest_vote, later_epoch, standing_epoch, stood_in, timeout_epoch, timed_out, timeout_checks, stands, joins, joined_to, elected, elect_checks, is_elected, won_by, win_checks}
+use Rattle.marks.specs.Order.{left_first, epoch_up_to, header_up_to, vote_up_to}
+use Rattle.frames.specs.Fields.{EntryFields}
+use Rattle.protocol.specs.Rows.{row_of, vote_of, vote_rows}
+use Rattle.protocol.specs.Rack.{Sizes, State, at, with_card, is_electing, is_leader}
+use Rattle.protocol.specs.Voting.{largest_vote, later_epoch, standing_epoch, stood_in, timeout_epoch, timed_out, timeout_checks, stands, joins, joined_to, elected, elect_checks}
 use Rattle.protocol.specs.declared.card.Card.{Card}
 use Rattle.protocol.specs.declared.card.Role.{Role}
 use Rattle.protocol.specs.declared.card.Role.TheVariants.{Electing, Leader, Follower}
-use Rattle.protocol.specs.declared.peers.PeerRow.{PeerRow}
-use Rattle.laws.proofs.Base.{en, hn, Up, Lt, how_many, at_same, at_other, at_all, upto_num, same_num, leader_num, header_below_false, and_second}
-use Rattle.laws.proofs.Inv.{Past, hist, Chosen, Sound, View, view, CardOk, VoteOk, RowOk, FrameOk, Waiting, Inv, Grows, Still}
+use Rattle.laws.proofs.Base.{en, hn, Up, at_same, at_other, at_all, upto_num, same_num, leader_num, header_below_false, and_second}
+use Rattle.laws.proofs.Inv.{Past, Sound, View, view, CardOk, VoteOk, Inv, Grows}
 use Rattle.laws.proofs.Past.{Meets}
 use Rattle.laws.proofs.Moves.{balloted, Ballot, balloted_still, balloted_grows, balloted_sound}
 use Rattle.protocol.proofs.Asked.{Passed}
-use Rattle.laws.proofs.Keep.{card_within, same_grows, same_still, Acted, acted, frames_keep, waits_keep, rows_keep, largest_one, all_rows}
+use Rattle.laws.proofs.Keep.{same_grows, same_still, Acted, acted, frames_keep, waits_keep, rows_keep, largest_one, all_rows}
 use Rattle.laws.proofs.Tables.{row_ok}
 
 not_both : (r : Role) → is_electing r ≡ true → is_leader r ≡ true → ⊥

@@ -1,28 +1,26 @@
 -- win keeps the invariant.
-use Rattle.std.proofs.Common.{◌≡◌, ℕ, zero, suc, ◌+◌, ◌-◌, ◌*◌, ◌/◌, ◌%◌, ◌<◌, ◌≤◌, Bool, true, false, cond, not, ◌&&◌, ◌||◌, eqb, ltb, leb, ◌⊎◌, List, [], ◌∷◌, ◌++◌, map, length, get_or, take, drop, set, filter, sym, refl, ap, ◌∙◌, subst, inl, inr, ⊎_elim, arith}
+use Rattle.std.proofs.Common.{◌≡◌, ℕ, suc, ◌%◌, ◌<◌, ◌≤◌, Bool, true, false, cond, ◌&&◌, eqb, leb, List, [], length, sym, refl, ap, ◌∙◌, subst, ⊎_elim, arith}
 use Rattle.std.specs.List.{AllByRecursion as All}
 use Rattle.std.proofs.ByRecursion.{All-weaker}
 use Rattle.std.proofs.lemmas.List.{append-nil}
-use Rattle.std.proofs.lemmas.Bool.{true≢false, not-false, and_parts, leb-true, eqb-true, cases_lt}
-use Rattle.marks.specs.Kinds.{Epoch, Header, Vote, epoch_of}
-use Rattle.marks.specs.Order.{left_first, header_up_to, vote_up_to}
+use Rattle.std.proofs.lemmas.Bool.{not-false, and_parts, leb-true, eqb-true, cases_lt}
+use Rattle.marks.specs.Kinds.{Epoch, Header, Vote}
+use Rattle.marks.specs.Order.{vote_up_to}
 use Rattle.marks.specs.Rows.{count_between}
 use Rattle.marks.specs.Orders.{vote_order}
 use Rattle.frames.specs.Fields.{EntryFields}
 use Rattle.protocol.specs.Rows.{majority, row_of, vote_of, vote_rows, forget_shipped}
-use Rattle.protocol.specs.Rack.{Sizes, State, at, with_card, is_electing, is_leader}
-use Rattle.protocol.specs.Voting.{is_elected, won_by, win_checks}
-use Rattle.protocol.specs.declared.card.Card.{Card}
+use Rattle.protocol.specs.Rack.{Sizes, State, with_card, is_electing}
+use Rattle.protocol.specs.Voting.{won_by, win_checks}
 use Rattle.protocol.specs.declared.card.Role.TheVariants.{Leader}
-use Rattle.protocol.specs.declared.peers.PeerRow.{PeerRow}
 use Rattle.laws.specs.Laws.{Rising}
-use Rattle.laws.proofs.Base.{en, hn, Up, Lt, how_many, at_same, at_other, leader_num}
-use Rattle.laws.proofs.Inv.{Past, hist, UpTo, Before, Sound, View, view, CardOk, VoteOk, RowOk, Inv, Grows}
+use Rattle.laws.proofs.Base.{en, hn, how_many, at_same, at_other, leader_num}
+use Rattle.laws.proofs.Inv.{Past, hist, UpTo, Before, view, CardOk, VoteOk, Inv}
 use Rattle.laws.proofs.Past.{Meets, hist_upto, hist_rising}
 use Rattle.laws.proofs.Carry.{row_keeps}
 use Rattle.laws.proofs.Moves.{moved, Move, moved_grows, moved_sound, moved_still}
 use Rattle.protocol.proofs.Asked.{Passed}
-use Rattle.laws.proofs.Keep.{card_within, Acted, acted, frames_keep, waits_keep, rows_keep, count_bound}
+use Rattle.laws.proofs.Keep.{card_within, acted, frames_keep, waits_keep, count_bound}
 use Rattle.laws.proofs.Tables.{TableOk, peer_row, forget_ok}
 use Rattle.laws.proofs.KeepVoting.{Kept, acc_num}
 use Rattle.laws.proofs.KeepMoved.{moved_card}

@@ -1,28 +1,26 @@
 -- The laws of every run.
-use Rattle.std.proofs.Common.{◌≡◌, ℕ, zero, suc, ◌+◌, ◌-◌, ◌*◌, ◌/◌, ◌%◌, ◌<◌, ◌≤◌, Bool, true, false, cond, not, ◌&&◌, ◌||◌, eqb, ltb, leb, ◌⊎◌, List, [], ◌∷◌, ◌++◌, map, length, get_or, take, drop, set, Ok, Err, filter, sym, refl, ap, ◌∙◌, subst, inl, inr, ⊎_elim, arith}
-use mathlib.Core.Path.{fun_ext}
+use Rattle.std.proofs.Common.{◌≡◌, ℕ, zero, suc, ◌+◌, ◌<◌, ◌≤◌, true, ◌⊎◌, List, [], ◌∷◌, ◌++◌, length, get_or, sym, refl, ap, ◌∙◌, subst, inl, inr, ⊎_elim, arith}
 use Rattle.std.specs.List.{AllByRecursion as All}
-use Rattle.std.proofs.lemmas.List.{append_assoc, append-nil, length-append, get_or_append_left}
+use Rattle.std.proofs.lemmas.List.{append_assoc, length-append, get_or_append_left}
 use Rattle.std.proofs.ByRecursion.{All-get_or, all_kept_by}
-use Rattle.std.proofs.lemmas.Bool.{true≢false, not-false, eqb-true, and_parts, cases_order, cases_lt, ltb-true, le-leb}
+use Rattle.std.proofs.lemmas.Bool.{not-false, cases_order, cases_lt, ltb-true, le-leb}
 use Rattle.std.proofs.lemmas.Bool.Decides.{nat_tests}
-use Rattle.marks.specs.Kinds.{Epoch, Header, epoch_of}
-use Rattle.marks.specs.Order.{epoch_below, epoch_up_to, header_below, header_up_to}
+use Rattle.marks.specs.Kinds.{Epoch, Header}
+use Rattle.marks.specs.Order.{epoch_below, header_below}
 use Rattle.frames.specs.Fields.{Words, EntryFields}
 use Rattle.protocol.specs.Rack.{Sizes, State, opened, with_card, is_electing, is_leader}
 use Rattle.protocol.specs.Voting as voting
 use Rattle.protocol.specs.Booking as booking
 use Rattle.protocol.specs.Committing as committing
 use Rattle.protocol.specs.Committing.{reading, applied, due_entries}
-use Rattle.protocol.specs.declared.answer.Answer.{Answer}
 use Rattle.protocol.specs.declared.answer.Answer.TheVariants.{ForEpoch, Placed}
 use Rattle.protocol.specs.declared.card.Card.{Card}
 use Rattle.protocol.specs.declared.call.Call.{Call}
 use Rattle.protocol.specs.declared.call.Call.TheVariants.{Win, Submit, Commit}
-use Rattle.laws.specs.Runs.{ItemAt, Happens, reply_to, after, delivered_by, state_from, delivered_from, state_at, delivered_at, accepted_at, Wins, Submits, Delivers}
+use Rattle.laws.specs.Runs.{ItemAt, Happens, after, delivered_by, state_from, delivered_from, state_at, delivered_at, Wins, Submits, Delivers}
 use Rattle.laws.specs.Laws.{IsRack, Begins, Rising, Agreement, Integrity, NoLostDelivery, Elections, Counts, CardRules}
 use Rattle.laws.proofs.Base.{en, hn, Up, at_same, below_num, upto_num, leader_num, upto_header}
-use Rattle.laws.proofs.Inv.{Past, hist, Chosen, Sound, view, CardOk, Inv, Grows}
+use Rattle.laws.proofs.Inv.{Past, hist, Chosen, view, CardOk, Inv, Grows}
 use Rattle.laws.proofs.Past.{Meets, Starts, begins, hist_rising}
 use Rattle.laws.proofs.Carry.{chosen_won, chosen_sent, hist_keeps, chosen_keeps}
 use Rattle.protocol.proofs.Asked.{Passed, ask_keeps, ask_answered, ask_passed}

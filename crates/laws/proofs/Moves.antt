@@ -1,13 +1,13 @@
 -- How the past grows: a ballot, a win or acceptance, a delivery.
-use Rattle.std.proofs.Common.{◌≡◌, ℕ, zero, suc, ◌+◌, ◌-◌, ◌*◌, ◌/◌, ◌%◌, ◌<◌, ◌≤◌, Bool, true, false, cond, not, ◌&&◌, ◌||◌, eqb, ltb, leb, ◌⊎◌, List, [], ◌∷◌, ◌++◌, map, length, get_or, take, drop, filter, sym, refl, ap, ◌∙◌, subst, inl, inr, ⊎_elim, arith}
+use Rattle.std.proofs.Common.{◌≡◌, ℕ, suc, ◌%◌, ◌<◌, ◌≤◌, Bool, true, ◌⊎◌, List, length, take, sym, refl, ap, ◌∙◌, subst, ⊎_elim, arith}
 use Rattle.std.specs.List.{AllByRecursion as All}
-use Rattle.marks.specs.Kinds.{Epoch, Header, Vote}
-use Rattle.frames.specs.Fields.{EntryFields, FrameFields}
+use Rattle.marks.specs.Kinds.{Header}
+use Rattle.frames.specs.Fields.{EntryFields}
 use Rattle.protocol.specs.Rows.{majority}
 use Rattle.protocol.specs.Rack.{at}
 use Rattle.laws.specs.Laws.{Rising}
-use Rattle.laws.proofs.Base.{en, hn, Up, Lt, how_many, how_many_mono, at_same, at_other, at_all}
-use Rattle.laws.proofs.Inv.{Past, hist, Chosen, Numbered, Before, WonFrom, Sound, Grows, Still}
+use Rattle.laws.proofs.Base.{hn, Up, how_many, how_many_mono, at_same, at_other, at_all}
+use Rattle.laws.proofs.Inv.{Past, hist, Numbered, Before, WonFrom, Sound, Grows, Still}
 use Rattle.laws.proofs.Carry.{hist_keeps}
 
 pub from_keeps : (H K : Past) (n : ℕ) → Grows H K → (e : ℕ) → H.won e ≡ true → WonFrom H n e → WonFrom K n e

@@ -1,14 +1,11 @@
 -- The invariant holds of an opened rack.
-use Rattle.std.proofs.Common.{◌≡◌, ℕ, zero, suc, ◌+◌, ◌-◌, ◌*◌, ◌/◌, ◌%◌, ◌<◌, ◌≤◌, Bool, true, false, cond, not, ◌&&◌, ◌||◌, eqb, ltb, leb, ◌⊎◌, List, [], ◌∷◌, ◌++◌, map, length, get_or, take, drop, set, filter, sym, refl, ap, ◌∙◌, subst, inl, inr, ⊎_elim, arith}
-use mathlib.Core.Path.{fun_ext}
+use Rattle.std.proofs.Common.{◌≡◌, ℕ, zero, suc, ◌<◌, ◌≤◌, Bool, true, false, cond, eqb, ltb, List, [], ◌∷◌, get_or, sym, refl, subst, arith}
 use Rattle.std.specs.List.{AllByRecursion as All}
 use Rattle.std.proofs.lemmas.Bool.{true≢false, eqb-true}
-use Rattle.protocol.specs.Rows.{majority, blank_row, blank_table}
-use Rattle.protocol.specs.Rack.{State, opened_card, opened}
-use Rattle.protocol.specs.declared.peers.PeerRow.{PeerRow}
-use Rattle.laws.proofs.Base.{en, hn, Up, how_many, how_many_all}
-use Rattle.laws.proofs.Inv.{Past, Chosen, WonFrom, Sound, view, CardOk, RowOk, Inv}
-use Rattle.frames.specs.Fields.{EntryFields}
+use Rattle.protocol.specs.Rows.{blank_row, blank_table}
+use Rattle.protocol.specs.Rack.{opened_card, opened}
+use Rattle.laws.proofs.Base.{how_many_all}
+use Rattle.laws.proofs.Inv.{Past, Chosen, Sound, view, CardOk, RowOk, Inv}
 
 -- only the null epoch is won; every card has accepted its header and voted for it
 abbrev pub no_past : Past

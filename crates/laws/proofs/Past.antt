@@ -1,15 +1,15 @@
 -- What follows of the past alone: histories rise, and a chosen history begins every later one.
-use Rattle.std.proofs.Common.{◌≡◌, ℕ, zero, suc, ◌+◌, ◌-◌, ◌*◌, ◌/◌, ◌%◌, ◌<◌, ◌≤◌, Bool, true, false, cond, not, ◌&&◌, ◌||◌, eqb, ltb, leb, ◌⊎◌, List, [], ◌∷◌, ◌++◌, map, length, get_or, take, drop, filter, sym, refl, ap, ◌∙◌, subst, inl, inr, ⊎_elim, arith}
+use Rattle.std.proofs.Common.{◌≡◌, ℕ, zero, suc, ◌+◌, ◌*◌, ◌/◌, ◌%◌, ◌<◌, ◌≤◌, true, ltb, List, [], ◌∷◌, ◌++◌, length, take, drop, sym, refl, ap, ◌∙◌, subst, ⊎_elim, arith}
 use Rattle.std.specs.List.{AllByRecursion as All}
-use Rattle.std.proofs.ByRecursion.{All-append, All-weaker, All-take, All-drop}
-use Rattle.std.proofs.lemmas.List.{append_assoc, append-nil, take-append-drop, take-take, take_all}
-use Rattle.std.proofs.lemmas.Bool.{cases_lt, cases_order, ltb-true, lt-ltb}
+use Rattle.std.proofs.ByRecursion.{All-append, All-weaker}
+use Rattle.std.proofs.lemmas.List.{append_assoc, take-append-drop, take-take}
+use Rattle.std.proofs.lemmas.Bool.{cases_order, ltb-true}
 use Rattle.marks.specs.Order.{header_below}
 use Rattle.frames.specs.Fields.{EntryFields}
 use Rattle.protocol.specs.Rows.{majority}
 use Rattle.laws.specs.Laws.{Rising}
-use Rattle.laws.proofs.Base.{en, hn, Up, Lt, how_many, how_many_mono, shared, below_header}
-use Rattle.laws.proofs.Inv.{Past, hist, Chosen, Numbered, Before, UpTo, Beyond, WonFrom, Sound}
+use Rattle.laws.proofs.Base.{hn, Up, Lt, shared, below_header}
+use Rattle.laws.proofs.Inv.{Past, hist, Chosen, Numbered, Before, UpTo, Beyond, Sound}
 
 -- two majorities meet
 abbrev pub Meets : ℕ → Type 0

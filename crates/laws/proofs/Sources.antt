@@ -1,10 +1,8 @@
 -- What needs no past: machines, the tally, and where entries come from.
-use Rattle.std.proofs.Common.{◌≡◌, ℕ, zero, suc, ◌+◌, ◌-◌, ◌*◌, ◌/◌, ◌%◌, ◌<◌, ◌≤◌, Bool, true, false, cond, not, ◌&&◌, ◌||◌, eqb, ltb, leb, ◌⊎◌, List, [], ◌∷◌, ◌++◌, map, length, get_or, take, drop, set, is_ok, Some, None, Ok, Err, filter, Option, sym, refl, ap, ◌∙◌, subst, inl, inr, ⊎_elim, arith}
-use mathlib.Core.Path.{fun_ext}
+use Rattle.std.proofs.Common.{◌≡◌, ℕ, zero, suc, ◌+◌, Bool, true, false, cond, ◌&&◌, ◌||◌, eqb, List, [], ◌∷◌, ◌++◌, map, length, drop, is_ok, Some, None, Option, sym, refl, ap, ◌∙◌, subst, ⊎_elim, arith}
 use Rattle.std.specs.List.{AllByRecursion as All}
-use Rattle.std.proofs.lemmas.List.{append_assoc, append-nil}
-use Rattle.std.proofs.ByRecursion.{All-append, All-drop, All-take, All-map, All-weaker, all_kept_by, All-push}
-use Rattle.std.proofs.lemmas.Bool.{true≢false, eq-eqb, ne_eqb, eqb-true, and_right, and_parts, or_cases, not-false, cases_eq, cases_bool}
+use Rattle.std.proofs.ByRecursion.{All-append, All-drop, All-take, All-map, all_kept_by, All-push}
+use Rattle.std.proofs.lemmas.Bool.{eq-eqb, ne_eqb, eqb-true, and_right, and_parts, not-false, cases_eq}
 use Rattle.marks.specs.Kinds.{Header}
 use Rattle.marks.specs.Order.{header_below}
 use Rattle.frames.specs.Fields.{Words, EntryFields, FrameFields, header_of, words_header}
@@ -22,9 +20,9 @@ use Rattle.protocol.specs.declared.card.Card.{Card}
 use Rattle.protocol.specs.declared.call.Call.{Call}
 use Rattle.protocol.specs.declared.call.Call.TheVariants.{Timeout, Elect, Win, Submit, Ship, Take, Push, Look, Commit, Stop}
 use Rattle.laws.specs.Runs.{Happens, after, delivered_by, accepted_by, state_from, delivered_from, accepted_from}
-use Rattle.laws.proofs.Base.{at_same, at_other, at_all, and_second}
+use Rattle.laws.proofs.Base.{at_same, at_other, at_all}
 use Rattle.protocol.proofs.Asked.{Passed, ask_cases, ask_keeps}
-use Rattle.laws.proofs.Keep.{lane_all, lane_zero, lane_other}
+use Rattle.laws.proofs.Keep.{lane_zero, lane_other}
 use Rattle.laws.proofs.KeepExchange.{front_ok, row_kinds}
 use Rattle.laws.proofs.Found.{found_one}
 

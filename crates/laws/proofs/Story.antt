@@ -1,11 +1,10 @@
 -- The invariant holds at every moment of a run, and the past only grows from one moment to a later one.
-use Rattle.std.proofs.Common.{◌≡◌, ℕ, zero, suc, ◌+◌, ◌-◌, ◌*◌, ◌/◌, ◌%◌, ◌<◌, ◌≤◌, Bool, true, false, cond, not, ◌&&◌, ◌||◌, eqb, ltb, leb, ◌⊎◌, List, [], ◌∷◌, ◌++◌, map, length, get_or, take, drop, set, is_ok, Ok, Err, filter, sym, refl, ap, ◌∙◌, subst, inl, inr, ⊎_elim, arith}
+use Rattle.std.proofs.Common.{◌≡◌, ℕ, zero, suc, ◌≤◌, true, false, cond, ◌&&◌, eqb, List, [], ◌∷◌, ◌++◌, is_ok, sym, refl, ap, ◌∙◌, subst, arith}
 use mathlib.Core.Path.{fun_ext}
-use Rattle.std.specs.List.{AllByRecursion as All}
 use Rattle.std.proofs.lemmas.List.{append_assoc, append-nil}
 use Rattle.std.proofs.lemmas.Bool.{eq-eqb, ne_eqb, and_right}
 use Rattle.frames.specs.Fields.{Words, EntryFields}
-use Rattle.protocol.specs.Rack.{Sizes, State, Reply, ask, opened}
+use Rattle.protocol.specs.Rack.{Sizes, State}
 use Rattle.protocol.specs.Voting as voting
 use Rattle.protocol.specs.Booking as booking
 use Rattle.protocol.specs.Taking as taking
@@ -16,7 +15,7 @@ use Rattle.protocol.specs.declared.call.Call.TheVariants.{Timeout, Elect, Win, S
 use Rattle.laws.specs.Runs.{after, delivered_by, state_from, delivered_from}
 use Rattle.laws.proofs.Inv.{Past, Inv, Grows}
 use Rattle.laws.proofs.Past.{Meets}
-use Rattle.protocol.proofs.Asked.{Passed, ask_cases, ask_keeps}
+use Rattle.protocol.proofs.Asked.{ask_cases, ask_keeps}
 use Rattle.laws.proofs.Keep.{same_grows, grows_on}
 use Rattle.laws.proofs.KeepVoting.{Kept, timeout_keeps, elect_keeps}
 use Rattle.laws.proofs.KeepWin.{win_keeps}

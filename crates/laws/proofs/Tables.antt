@@ -1,11 +1,11 @@
 -- Tables of honest rows.
-use Rattle.std.proofs.Common.{◌≡◌, ℕ, zero, suc, ◌+◌, ◌-◌, ◌*◌, ◌/◌, ◌%◌, ◌<◌, ◌≤◌, Bool, true, false, cond, not, ◌&&◌, ◌||◌, eqb, ltb, leb, List, [], ◌∷◌, ◌++◌, map, length, get_or, take, drop, set, Option, sym, refl, ap, ◌∙◌, subst, arith}
+use Rattle.std.proofs.Common.{◌≡◌, ℕ, zero, suc, ◌-◌, Bool, true, false, cond, ltb, get_or, set, Option, sym, subst, arith}
 use Rattle.std.proofs.lemmas.Bool.{lt-ltb}
 use Rattle.protocol.specs.Rows.{blank_row, has_place, row_of, with_row, mark_shipped, forget_up_to}
 use Rattle.protocol.specs.declared.peers.PeerRow.{PeerRow}
 use Rattle.protocol.specs.declared.peers.PeerTable.{PeerTable}
-use Rattle.laws.proofs.Base.{how_many, how_many_all, set_all}
-use Rattle.laws.proofs.Inv.{Past, Chosen, Sound, RowOk}
+use Rattle.laws.proofs.Base.{how_many_all, set_all}
+use Rattle.laws.proofs.Inv.{Past, Sound, RowOk}
 
 abbrev pub TableOk : Past → ℕ → PeerTable → Type 0
 TableOk H n table = (k : ℕ) → RowOk H n (suc k) (get_or table.rows k blank_row)

@@ -1,10 +1,10 @@
 -- What holds of every run of a rack, whatever its calls, its sizes of logs and lanes, and its machine.
-use Rattle.std.specs.Prelude.{◌≡◌, ℕ, suc, ◌<◌, ◌≤◌, Bool, true, false, ◌⊎◌, List, [], ◌∷◌, ◌++◌}
+use Rattle.std.specs.Prelude.{◌≡◌, ℕ, suc, ◌≤◌, true, false, ◌⊎◌, List, [], ◌∷◌, ◌++◌}
 use Rattle.std.specs.List.{AllByRecursion as All}
 use Rattle.marks.specs.Kinds.{Epoch, epoch_of}
 use Rattle.marks.specs.Order.{epoch_below, epoch_up_to, header_below, header_up_to}
 use Rattle.frames.specs.Fields.{Words, EntryFields}
-use Rattle.protocol.specs.Rack.{Sizes, State, is_electing}
+use Rattle.protocol.specs.Rack.{Sizes, is_electing}
 use Rattle.protocol.specs.Committing.{reading, applied}
 use Rattle.protocol.specs.declared.call.Call.{Call}
 use Rattle.laws.specs.Runs.{ItemAt, state_at, delivered_at, accepted_at, Wins, Submits, Delivers}

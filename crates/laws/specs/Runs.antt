@@ -1,5 +1,5 @@
 -- A run: a list of calls from the opened state. Moment k is when its first k calls have been made; past its last call nothing happens.
-use Rattle.std.specs.Prelude.{◌≡◌, ℕ, zero, suc, ◌+◌, ◌<◌, ◌≤◌, Bool, true, false, cond, ◌&&◌, List, [], ◌∷◌, ◌++◌, length, is_ok, Ok, ◌==◌, slice_index_or}
+use Rattle.std.specs.Prelude.{◌≡◌, ℕ, zero, suc, ◌+◌, ◌<◌, ◌≤◌, cond, ◌&&◌, List, [], ◌∷◌, ◌++◌, length, is_ok, Ok, ◌==◌, slice_index_or}
 use Rattle.marks.specs.Kinds.{Epoch}
 use Rattle.frames.specs.Fields.{Words, EntryFields}
 use Rattle.protocol.specs.Rack.{Sizes, State, Reply, opened}

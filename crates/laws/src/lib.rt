@@ -1,4 +1,6 @@
 // The laws of every run of a rack of 3, 5 or 7 cards: any calls, any sizes of logs and lanes, any machine.
+#![tactic(auto)]
+
 ghost use Rattle.protocol.specs.Rack.{Sizes};
 ghost use Rattle.laws.specs.Laws.{IsRack, Agreement, Integrity, NoLostDelivery, Elections, Counts, CardRules};
 
