@@ -7,9 +7,8 @@ use Rattle.marks.specs.Kinds.{Header}
 use Rattle.frames.specs.Fields.{Words, EntryFields}
 use Rattle.frames.specs.Views.{entry_fields}
 use Rattle.frames.specs.declared.entry.Entry.{Entry}
-use Rattle.protocol.specs.Rack.{Reply, ask, is_leader}
+use Rattle.protocol.specs.Rack.{ask, is_leader}
 use Rattle.protocol.specs.Booking.{place_after, booked, accepted_up_to}
-use Rattle.protocol.specs.declared.answer.Answer.{Answer}
 use Rattle.protocol.specs.declared.answer.Answer.TheVariants.{Placed}
 use Rattle.protocol.specs.declared.card.Card.{Card}
 use Rattle.protocol.proofs.Asked.{Passed, ask_refused, ask_done, ask_skip}

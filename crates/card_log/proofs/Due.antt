@@ -1,15 +1,14 @@
 -- What is due, by next's count, and commit from it.
-use Rattle.std.proofs.Common.{◌≡◌, ℕ, ◌+◌, ◌<◌, ◌≤◌, min, Bool, true, false, cond, not, ◌&&◌, eqb, leb, List, [], ◌∷◌, length, Some, None, Ok, Err, filter, Option, Result, sym, refl, ap, ◌∙◌, subst, arith}
+use Rattle.std.proofs.Common.{◌≡◌, ℕ, ◌+◌, ◌<◌, ◌≤◌, Bool, true, false, cond, not, ◌&&◌, eqb, leb, List, [], ◌∷◌, length, Some, None, Ok, Err, filter, Option, Result, sym, refl, ap, ◌∙◌, arith}
 use Rattle.std.proofs.lemmas.Bool.{eq-eqb, ne_eqb, eqb-true, and_parts, leb-true, cond-true, cond-false}
 use Rattle.std.proofs.lemmas.List.Filters.{length-filter_both}
 use Rattle.std.specs.Option.{option_or}
-use Rattle.refusals.specs.declared.Refusal.{Refusal}
 use Rattle.refusals.specs.declared.Refusal.TheVariants.{Stopped, WrongRole, NothingDue}
 use Rattle.marks.specs.Kinds.{Header, is_led_epoch}
 use Rattle.frames.specs.Fields.{Words, EntryFields, is_entry_header}
 use Rattle.frames.specs.Views.{entry_fields}
 use Rattle.frames.specs.declared.entry.Entry.{Entry}
-use Rattle.protocol.specs.Rack.{Reply, ask, is_electing}
+use Rattle.protocol.specs.Rack.{Reply, is_electing}
 use Rattle.protocol.specs.Booking.{entry_at, is_header, inside}
 use Rattle.protocol.specs.Committing.{supported, opens_epoch, due_entries, one_or_none, last_header, committed_to, applied}
 use Rattle.protocol.specs.declared.answer.Answer.TheVariants.{Count}

@@ -16,7 +16,9 @@ use Rattle.protocol.specs.declared.answer.Answer.{Answer}
 use Rattle.protocol.specs.declared.answer.Answer.TheVariants.{Count}
 use Rattle.protocol.specs.declared.card.Card.{Card}
 use Rattle.protocol.specs.declared.card.Role.{Role}
-use Rattle.protocol.specs.declared.card.Role.TheVariants.{Leader}
+use denote.Enum.Bare.{sameb}
+use Rattle.protocol.specs.contracts.card.Role.{the_type}
+use Rattle.protocol.specs.declared.card.Role.TheVariants.{Follower, Electing, Leader}
 use Rattle.protocol.specs.declared.peers.PeerRow.{PeerRow}
 use Rattle.protocol.specs.declared.peers.PeerTable.{PeerTable}
 use Rattle.cards.specs.LaneViews.{lane_fields}
@@ -70,9 +72,10 @@ module _ (n room i j : ℕ) (c : Card) (lanes : LanesOf FrameFields) (log : List
     pub ship_done : (a : Answer) (left : LanesOf FrameFields) (table : PeerTable) → table ≡ mark_shipped c.peers j (shipped_after shipped) → (Ok a, left) ≡ enter_part n room i j (unshippable c row.commit shipped log) due lanes → (Ok a, (with_peers table c, left)) ≡ ship_part n room i j log (c, lanes)
     ship_done a left table stored entered = ap (λ t. (Ok a, (with_peers t c, left))) stored ∙ shipped_by (Ok a) left entered
 
-pub leading : (role : Role) (x : Bool) → cond x (role ≡ Leader) (role ≡ Leader → ⊥) → false ≡ not x → is_leader role ≡ true
-leading role true is e = ap is_leader is
-leading role false isnt e = absurd (false≢true e)
+pub leading : (role : Role) → false ≡ not (sameb the_type role Leader) → is_leader role ≡ true
+leading Follower e = absurd (false≢true e)
+leading Electing e = absurd (false≢true e)
+leading Leader e = refl
 
 -- no entry has a count past the last
 module _ (h : Header) (past : 4294967294 < h.2) where

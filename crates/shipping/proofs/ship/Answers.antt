@@ -10,20 +10,20 @@ use Rattle.refusals.specs.declared.Refusal.TheVariants.{NothingDue}
 use Rattle.shipping.proofs.Ships.{leading, ship_refused, ship_done, nothing_past}
 use Rattle.shipping.proofs.ship.Goals as goal
 
-pub returns-in_err-frames : goal.returns-in_err-frames
-returns-in_err-frames g c =
+pub returns-in_err-frames-in-None : goal.returns-in_err-frames-in-None
+returns-in_err-frames-in-None g c =
     let b = g.B.Backplane in
     let s = c.args.backplane.now in
     let card = c.args.card.now in
     let log = log_of c.args.part.now c.args.used in
     let row = c.row-row.result in
-    let role = c.if-ne.ensures in
+    let leads = leading card.role c.if-ne.ensures in
     let p = err_from_is_err_and c.from_residual.result c.from_residual.ensures.1 in
-    let out = c.in_err-frames.ensures in
+    let out = c.in_err-frames-in-None.ensures in
     record {
       part =
           ap (λ r. (replied Count r, (card, lane_fields (b.lanes c.send_diff.new.backplane)))) (p.1 ∙ ap Err p.2)
-          ∙ ship_refused (b.count s) (b.room s) c.args.i c.args.j card (lane_fields (b.lanes s)) log c.if-card.false (leading card.role role.0 role.1 role.2) row c.row-row.ensures None c.in-None.is (diff_frames card.current row.commit (diff_entries card.current row.commit log)) refl (card_refusal c.in_err-frames.field-0.0) (lane_fields (b.lanes c.send_diff.new.backplane)) out.part;
+          ∙ ship_refused (b.count s) (b.room s) c.args.i c.args.j card (lane_fields (b.lanes s)) log c.if-card.false leads row c.row-row.ensures None c.in-None.is (diff_frames card.current row.commit (diff_entries card.current row.commit log)) refl (card_refusal c.in_err-frames-in-None.field-0.0) (lane_fields (b.lanes c.send_diff.new.backplane)) out.part;
       count = out.count;
       room = out.room;
     }
@@ -35,61 +35,61 @@ returns-in_default g c =
     let card = c.args.card.now in
     let log = log_of c.args.part.now c.args.used in
     let row = c.row-row.result in
-    let role = c.if-ne.ensures in
+    let leads = leading card.role c.if-ne.ensures in
     let next = c.in-Some.shipped + 1 in
     let past : 4294967294 < next = omega (arith, c.in_default.ensures) in
     record {
-      part = ship_refused (b.count s) (b.room s) c.args.i c.args.j card (lane_fields (b.lanes s)) log c.if-card.false (leading card.role role.0 role.1 role.2) row c.row-row.ensures (Some c.in-Some.shipped) c.in-Some.is (message_frames (entry_at (card.current.0, card.current.1, next) log)) refl NothingDue (lane_fields (b.lanes s)) (nothing_past (card.current.0, card.current.1, next) past (b.count s) (b.room s) c.args.i c.args.j (b.lanes s) c.args.part.now c.args.used);
+      part = ship_refused (b.count s) (b.room s) c.args.i c.args.j card (lane_fields (b.lanes s)) log c.if-card.false leads row c.row-row.ensures (Some c.in-Some.shipped) c.in-Some.is (message_frames (entry_at (card.current.0, card.current.1, next) log)) refl NothingDue (lane_fields (b.lanes s)) (nothing_past (card.current.0, card.current.1, next) past (b.count s) (b.room s) c.args.i c.args.j (b.lanes s) c.args.part.now c.args.used);
       count = refl;
       room = refl;
     }
 
-pub returns-in_err-frames-2 : goal.returns-in_err-frames-2
-returns-in_err-frames-2 g c =
+pub returns-in_err-frames-in-Some : goal.returns-in_err-frames-in-Some
+returns-in_err-frames-in-Some g c =
     let b = g.B.Backplane in
     let s = c.args.backplane.now in
     let card = c.args.card.now in
     let log = log_of c.args.part.now c.args.used in
     let row = c.row-row.result in
-    let role = c.if-ne.ensures in
-    let p = err_from_is_err_and c.from_residual-in_err-frames-2.result c.from_residual-in_err-frames-2.ensures.1 in
-    let out = c.in_err-frames-2.ensures in
+    let leads = leading card.role c.if-ne.ensures in
+    let p = err_from_is_err_and c.from_residual-in_err-frames-in-Some.result c.from_residual-in_err-frames-in-Some.ensures.1 in
+    let out = c.in_err-frames-in-Some.ensures in
     let next = c.in-Some-checked_add.ensures in
     record {
       part =
           ap (λ r. (replied Count r, (card, lane_fields (b.lanes c.send_message.new.backplane)))) (p.1 ∙ ap Err p.2)
-          ∙ ship_refused (b.count s) (b.room s) c.args.i c.args.j card (lane_fields (b.lanes s)) log c.if-card.false (leading card.role role.0 role.1 role.2) row c.row-row.ensures (Some c.in-Some.shipped) c.in-Some.is (message_frames (entry_at (card.current.0, card.current.1, c.in-Some-checked_add.count) log)) (ap (λ m. message_frames (entry_at (card.current.0, card.current.1, m) log)) next.1) (card_refusal c.in_err-frames-2.field-0.0) (lane_fields (b.lanes c.send_message.new.backplane)) out.part;
+          ∙ ship_refused (b.count s) (b.room s) c.args.i c.args.j card (lane_fields (b.lanes s)) log c.if-card.false leads row c.row-row.ensures (Some c.in-Some.shipped) c.in-Some.is (message_frames (entry_at (card.current.0, card.current.1, c.in-Some-checked_add.count) log)) (ap (λ m. message_frames (entry_at (card.current.0, card.current.1, m) log)) next.1) (card_refusal c.in_err-frames-in-Some.field-0.0) (lane_fields (b.lanes c.send_message.new.backplane)) out.part;
       count = out.count;
       room = out.room;
     }
 
-pub returns-in_ok-frames : goal.returns-in_ok-frames
-returns-in_ok-frames g c =
+pub returns-in_ok-frames-in-None : goal.returns-in_ok-frames-in-None
+returns-in_ok-frames-in-None g c =
     let b = g.B.Backplane in
     let s = c.args.backplane.now in
     let card = c.args.card.now in
     let log = log_of c.args.part.now c.args.used in
     let row = c.row-row.result in
-    let role = c.if-ne.ensures in
-    let out = c.in_ok-frames.ensures in
+    let leads = leading card.role c.if-ne.ensures in
+    let out = c.in_ok-frames-in-None.ensures in
     record {
-      part = ship_done (b.count s) (b.room s) c.args.i c.args.j card (lane_fields (b.lanes s)) log c.if-card.false (leading card.role role.0 role.1 role.2) row c.row-row.ensures None c.in-None.is (diff_frames card.current row.commit (diff_entries card.current row.commit log)) refl (Count c.in_ok-frames.frames) (lane_fields (b.lanes c.send_diff.new.backplane)) c.mark_shipped.new.self c.mark_shipped.ensures out.part;
+      part = ship_done (b.count s) (b.room s) c.args.i c.args.j card (lane_fields (b.lanes s)) log c.if-card.false leads row c.row-row.ensures None c.in-None.is (diff_frames card.current row.commit (diff_entries card.current row.commit log)) refl (Count c.in_ok-frames-in-None.frames) (lane_fields (b.lanes c.send_diff.new.backplane)) c.mark_shipped.new.self c.mark_shipped.ensures out.part;
       count = out.count;
       room = out.room;
     }
 
-pub returns-in_ok-frames-2 : goal.returns-in_ok-frames-2
-returns-in_ok-frames-2 g c =
+pub returns-in_ok-frames-in-Some : goal.returns-in_ok-frames-in-Some
+returns-in_ok-frames-in-Some g c =
     let b = g.B.Backplane in
     let s = c.args.backplane.now in
     let card = c.args.card.now in
     let log = log_of c.args.part.now c.args.used in
     let row = c.row-row.result in
-    let role = c.if-ne.ensures in
-    let out = c.in_ok-frames-2.ensures in
+    let leads = leading card.role c.if-ne.ensures in
+    let out = c.in_ok-frames-in-Some.ensures in
     let next = c.in-Some-checked_add.ensures in
     record {
-      part = ship_done (b.count s) (b.room s) c.args.i c.args.j card (lane_fields (b.lanes s)) log c.if-card.false (leading card.role role.0 role.1 role.2) row c.row-row.ensures (Some c.in-Some.shipped) c.in-Some.is (message_frames (entry_at (card.current.0, card.current.1, c.in-Some-checked_add.count) log)) (ap (λ m. message_frames (entry_at (card.current.0, card.current.1, m) log)) next.1) (Count c.in_ok-frames-2.frames) (lane_fields (b.lanes c.send_message.new.backplane)) c.mark_shipped-in-Some.new.self (c.mark_shipped-in-Some.ensures ∙ ap (λ m. mark_shipped card.peers c.args.j (Some m)) next.1) out.part;
+      part = ship_done (b.count s) (b.room s) c.args.i c.args.j card (lane_fields (b.lanes s)) log c.if-card.false leads row c.row-row.ensures (Some c.in-Some.shipped) c.in-Some.is (message_frames (entry_at (card.current.0, card.current.1, c.in-Some-checked_add.count) log)) (ap (λ m. message_frames (entry_at (card.current.0, card.current.1, m) log)) next.1) (Count c.in_ok-frames-in-Some.frames) (lane_fields (b.lanes c.send_message.new.backplane)) c.mark_shipped-in-Some.new.self (c.mark_shipped-in-Some.ensures ∙ ap (λ m. mark_shipped card.peers c.args.j (Some m)) next.1) out.part;
       count = out.count;
       room = out.room;
     }

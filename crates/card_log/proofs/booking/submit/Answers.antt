@@ -1,8 +1,7 @@
-use Rattle.std.proofs.Common.{◌≡◌, ◌≤◌, cond, length, Err, sym, refl, ap, ◌∙◌, arith, length-set}
+use Rattle.std.proofs.Common.{refl, arith}
 use Rattle.std.proofs.lemmas.Result.{err_from_is_err_and}
 use Rattle.frames.specs.Views.{entry_fields}
-use Rattle.protocol.specs.declared.answer.Answer.TheVariants.{Placed}
-use Rattle.cards.specs.Faults.{replied, card_refusal}
+use Rattle.cards.specs.Faults.{card_refusal}
 use Rattle.cards.proofs.Stays.{stays}
 use Rattle.card_log.specs.Parts.{is_booking}
 use Rattle.card_log.proofs.Booked.{submit_refused, submit_malformed, submit_fits, submit_done, booked_none, booked_some}

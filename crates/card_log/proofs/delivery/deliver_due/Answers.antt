@@ -1,4 +1,4 @@
-use Rattle.std.proofs.Common.{◌≡◌, [], ◌∷◌, filter, sym, refl, ap, ◌∙◌, arith}
+use Rattle.std.proofs.Common.{[], ◌∷◌, filter, refl, arith}
 use Rattle.frames.specs.Views.{entry_fields}
 use Rattle.protocol.specs.Booking.{inside}
 use Rattle.logs.specs.Log.{log_of}
