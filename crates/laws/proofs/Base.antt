@@ -1,6 +1,6 @@
 -- Numbers for epochs, and small facts on lists, counts and pointwise updates.
 use Rattle.std.proofs.Common.{◌≡◌, ℕ, zero, suc, ◌+◌, ◌*◌, ◌/◌, ◌%◌, ◌<◌, ◌≤◌, Bool, true, false, cond, ◌&&◌, ltb, leb, List, [], ◌∷◌, map, get_or, set, filter, sym, refl, ap, subst, ⊎_elim, arith}
-use Rattle.std.specs.List.{AllByRecursion as All}
+use Rattle.std.specs.List.{AllByRecursion}
 use Rattle.std.proofs.lemmas.Bool.Decides.{nat_tests}
 use Rattle.std.proofs.lemmas.Bool.{eq-eqb, ne_eqb, true≢false, cases_eq}
 use Rattle.marks.specs.Kinds.{Epoch, Header}
@@ -76,11 +76,11 @@ at_all P i a f h k j = ⊎_elim same other (cases_eq j i)
     other e = subst (P j) (sym (at_other i a f j e)) (k j e)
 
 -- lists
-pub kept_all : {X : Type 0} (p : X → Bool) (xs : List X) → All (λ x. p x ≡ true) xs → filter p xs ≡ xs
+pub kept_all : {X : Type 0} (p : X → Bool) (xs : List X) → AllByRecursion (λ x. p x ≡ true) xs → filter p xs ≡ xs
 kept_all p [] h = refl
 kept_all p (x ∷ xs) h = rw h.0 (ap (λ ys. x ∷ ys) (kept_all p xs h.1))
 
-pub kept_none : {X : Type 0} (p : X → Bool) (xs : List X) → All (λ x. p x ≡ false) xs → filter p xs ≡ []
+pub kept_none : {X : Type 0} (p : X → Bool) (xs : List X) → AllByRecursion (λ x. p x ≡ false) xs → filter p xs ≡ []
 kept_none p [] h = refl
 kept_none p (x ∷ xs) h = rw h.0 (kept_none p xs h.1)
 

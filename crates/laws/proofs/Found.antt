@@ -1,6 +1,6 @@
 -- What the search for a header finds in a card's log, and what the filters on its log leave.
 use Rattle.std.proofs.Common.{◌≡◌, ℕ, zero, suc, ◌+◌, ◌*◌, ◌<◌, ◌≤◌, Bool, true, false, cond, ◌&&◌, List, [], ◌∷◌, ◌++◌, length, take, Some, None, filter, Option, sym, refl, ap, ◌∙◌, subst, ⊎_elim, arith}
-use Rattle.std.specs.List.{AllByRecursion as All}
+use Rattle.std.specs.List.{AllByRecursion}
 use Rattle.std.specs.Option.{option_or}
 use Rattle.std.proofs.lemmas.List.Elements.{filter-append}
 use Rattle.std.proofs.ByRecursion.{All-append, All-weaker}
@@ -19,7 +19,7 @@ use Rattle.laws.specs.Laws.{Rising}
 use Rattle.laws.proofs.Past.{numbered_front, sent_later}
 
 -- what is found has the header, and is one of the entries
-pub found_one : (Q : EntryFields → Type 0) (h : Header) (xs : List EntryFields) (x : EntryFields) → All Q xs → entry_at h xs ≡ Some x → Q x × (x.header ≡ h)
+pub found_one : (Q : EntryFields → Type 0) (h : Header) (xs : List EntryFields) (x : EntryFields) → AllByRecursion Q xs → entry_at h xs ≡ Some x → Q x × (x.header ≡ h)
 found_one Q h [] x q e = absurd (let z : ◌≡◌ {A = ℕ} 0 1 = cc in omega arith)
 found_one Q h (y ∷ ys) x q e = by (entry_at h ys) refl (found_one Q h ys x q.1) e
   where
@@ -39,15 +39,15 @@ found_one Q h (y ∷ ys) x q e = by (entry_at h ys) refl (found_one Q h ys x q.1
     by (Some w) p rest e = rest (p ∙ e)
 
 -- the entry (e, c + k + 1) of entries (e, c + 1) and on
-numbered_at : (e c : ℕ) (xs : List EntryFields) → Numbered e (suc c) xs → All (λ (x : EntryFields). (k : ℕ) → x.header.2 ≡ suc (c + k) → (k < length xs) × (take (suc k) xs ≡ take k xs ++ x ∷ [])) xs
+numbered_at : (e c : ℕ) (xs : List EntryFields) → Numbered e (suc c) xs → AllByRecursion (λ (x : EntryFields). (k : ℕ) → x.header.2 ≡ suc (c + k) → (k < length xs) × (take (suc k) xs ≡ take k xs ++ x ∷ [])) xs
 numbered_at e c [] h = tt
 numbered_at e c (y ∷ ys) h = (first, All-weaker _ _ later ys (both _ _ ys (numbered_at e (suc c) ys h.1) (counts (suc c) ys h.1)))
   where
-    counts : (c : ℕ) (zs : List EntryFields) → Numbered e (suc c) zs → All (λ (x : EntryFields). suc c ≤ x.header.2) zs
+    counts : (c : ℕ) (zs : List EntryFields) → Numbered e (suc c) zs → AllByRecursion (λ (x : EntryFields). suc c ≤ x.header.2) zs
     counts c [] h = tt
     counts c (w ∷ ws) h = (omega (arith, ap (λ (t : Header). t.2) h.0), All-weaker _ _ (λ x l. omega arith) ws (counts (suc c) ws h.1))
 
-    both : (P Q : EntryFields → Type 0) (zs : List EntryFields) → All P zs → All Q zs → All (λ x. P x × Q x) zs
+    both : (P Q : EntryFields → Type 0) (zs : List EntryFields) → AllByRecursion P zs → AllByRecursion Q zs → AllByRecursion (λ x. P x × Q x) zs
     both P Q [] p q = tt
     both P Q (w ∷ ws) p q = ((p.0, q.0), both P Q ws p.1 q.1)
 
@@ -89,7 +89,7 @@ in_log H n W r l k m x small w f =
     late : (y : EntryFields) → ((j : ℕ) → y.header.2 ≡ suc (0 + j) → (j < length (take m (H.sent (r * 8 + l)))) × (take (suc j) (take m (H.sent (r * 8 + l))) ≡ take j (take m (H.sent (r * 8 + l))) ++ y ∷ [])) → Q y
     late y f q = f k (omega (arith, ap (λ (t : Header). t.2) q))
 
-kept_same : {X : Type 0} (p q : X → Bool) (xs : List X) → All (λ x. p x ≡ q x) xs → filter p xs ≡ filter q xs
+kept_same : {X : Type 0} (p q : X → Bool) (xs : List X) → AllByRecursion (λ x. p x ≡ q x) xs → filter p xs ≡ filter q xs
 kept_same p q [] h = refl
 kept_same p q (x ∷ xs) h = ap (λ b. cond b (x ∷ filter p xs) (filter p xs)) h.0 ∙ ap (λ ys. cond (q x) (x ∷ ys) ys) (kept_same p q xs h.1)
 
@@ -112,14 +112,14 @@ inside_start H n W low r l m small w =
     late x b = and_right _ _ (not_below_header x.header.0 x.header.1 x.header.2 r l 0 b.led small (record { epoch = b.beyond.epoch; count = λ _. omega arith }))
 
 -- a list in two parts, of which a filter keeps one
-pub keeps_second : (p : EntryFields → Bool) (xs ys zs : List EntryFields) → xs ≡ ys ++ zs → All (λ x. p x ≡ false) ys → All (λ x. p x ≡ true) zs → filter p xs ≡ zs
+pub keeps_second : (p : EntryFields → Bool) (xs ys zs : List EntryFields) → xs ≡ ys ++ zs → AllByRecursion (λ x. p x ≡ false) ys → AllByRecursion (λ x. p x ≡ true) zs → filter p xs ≡ zs
 keeps_second p xs ys zs e a b = ap (filter p) e ∙ filter-append p ys zs ∙ ap (λ ws. ws ++ filter p zs) (kept_none p ys a) ∙ kept_all p zs b
 
-pub keeps_first : (p : EntryFields → Bool) (xs ys zs : List EntryFields) → xs ≡ ys ++ zs → All (λ x. p x ≡ true) ys → All (λ x. p x ≡ false) zs → filter p xs ≡ ys
+pub keeps_first : (p : EntryFields → Bool) (xs ys zs : List EntryFields) → xs ≡ ys ++ zs → AllByRecursion (λ x. p x ≡ true) ys → AllByRecursion (λ x. p x ≡ false) zs → filter p xs ≡ ys
 keeps_first p xs ys zs e a b = ap (filter p) e ∙ filter-append p ys zs ∙ ap (λ ws. filter p ys ++ ws) (kept_none p zs b) ∙ append-nil _ ∙ kept_all p ys a
 
 -- the last header is one of them, or the one before
-pub last_of : (P : Header → Type 0) (h : Header) (xs : List EntryFields) → P h → All (λ (x : EntryFields). P x.header) xs → P (last_header h xs)
+pub last_of : (P : Header → Type 0) (h : Header) (xs : List EntryFields) → P h → AllByRecursion (λ (x : EntryFields). P x.header) xs → P (last_header h xs)
 last_of P h [] p q = p
 last_of P h (x ∷ xs) p q = last_of P x.header xs q.0 q.1
 
@@ -134,6 +134,6 @@ pub upto_not_below : (a b : Header) → header_up_to a b ≡ true → header_bel
 upto_not_below a b h = grind (arith, nat_tests)
 
 -- the entries of a rising list are at most its last
-pub rising_last : (h : Header) (xs : List EntryFields) → Rising xs → All (λ (x : EntryFields). header_up_to x.header (last_header h xs) ≡ true) xs
+pub rising_last : (h : Header) (xs : List EntryFields) → Rising xs → AllByRecursion (λ (x : EntryFields). header_up_to x.header (last_header h xs) ≡ true) xs
 rising_last h [] r = tt
 rising_last h (x ∷ xs) r = (last_of (λ (y : Header). header_up_to x.header y ≡ true) x.header xs (⊎_elim (λ t. t) (λ t. t) (header_order.compares x.header x.header)) (All-weaker _ _ (λ y t. below_upto x.header y.header t) xs r.0), rising_last x.header xs r.1)

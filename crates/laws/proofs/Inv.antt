@@ -1,6 +1,6 @@
 -- What the proof remembers of a run, and what holds at every moment.
 use Rattle.std.proofs.Common.{◌≡◌, ℕ, suc, ◌-◌, ◌/◌, ◌%◌, ◌<◌, ◌≤◌, Bool, true, false, ltb, List, [], ◌∷◌, ◌++◌, length, get_or, take, filter}
-use Rattle.std.specs.List.{AllByRecursion as All}
+use Rattle.std.specs.List.{AllByRecursion}
 use Rattle.marks.specs.Kinds.{Epoch, Header, Vote, epoch_of}
 use Rattle.marks.specs.Order.{header_below}
 use Rattle.frames.specs.Fields as fields
@@ -77,7 +77,7 @@ pub record Sound (H : Past) (n : ℕ) : Type 0 where
   pub head_below : (i e : ℕ) → H.cast i e ≡ true → 0 < e → hn (H.head e) < e
   pub head_led : (i e : ℕ) → H.cast i e ≡ true → (H.head e).1 < 8
   pub from : (e : ℕ) → H.won e ≡ true → 0 < e → WonFrom H n e
-  pub entries : (e : ℕ) → H.won e ≡ true → All (Before e) (H.start e)
+  pub entries : (e : ℕ) → H.won e ≡ true → AllByRecursion (Before e) (H.start e)
   pub rising : (e : ℕ) → H.won e ≡ true → Rising (H.start e)
   pub numbered : (e : ℕ) → H.won e ≡ true → Numbered e 1 (H.sent e)
 
@@ -188,14 +188,14 @@ ParcelOk H n j i (diff e base xs) = DiffOk H n j i e base xs
 pub record Waiting (H : Past) (n j i : ℕ) (lane : List FrameFields) : Type 0 where
   pub parcels : List Parcel
   pub is : lane ≡ laid parcels
-  pub ok : All (ParcelOk H n j i) parcels
+  pub ok : AllByRecursion (ParcelOk H n j i) parcels
 
 -- at a moment, with every card's delivered list
 pub record Inv {S : Type 0} (n : ℕ) (H : Past) (s : State S) (d : ℕ → List EntryFields) : Type 0 where
   pub sound : Sound H n
   pub card : (i : ℕ) → CardOk H n i (view (s.cards i)) (s.logs i) (d i)
   pub row : (i k : ℕ) → RowOk H n (suc k) (get_or (s.cards i).peers.rows k blank_row)
-  pub frame : (j i k : ℕ) → All (FrameOk H n j) (s.lanes j i k)
+  pub frame : (j i k : ℕ) → AllByRecursion (FrameOk H n j) (s.lanes j i k)
   pub waiting : (j i : ℕ) → Waiting H n j i (s.lanes j i 0)
 
 -- the past only grows

@@ -1,6 +1,6 @@
 -- How a call that one card carries out keeps the invariant.
 use Rattle.std.proofs.Common.{◌≡◌, ℕ, zero, suc, ◌+◌, ◌≤◌, Bool, true, false, cond, ◌&&◌, leb, List, [], ◌∷◌, get_or, sym, refl, ◌∙◌, subst, ⊎_elim, arith}
-use Rattle.std.specs.List.{AllByRecursion as All}
+use Rattle.std.specs.List.{AllByRecursion}
 use Rattle.std.proofs.ByRecursion.{All-weaker}
 use Rattle.std.proofs.lemmas.Bool.{cases_eq, and_parts, leb-true, true≢false, not-false}
 use Rattle.marks.specs.Rows.{largest_of, count_between}
@@ -44,7 +44,7 @@ pub record Acted {S : Type 0} (i : ℕ) (s t : State S) (d f : ℕ → List Entr
   pub lists : (j : ℕ) → (j ≡ i → ⊥) → f j ≡ d j
 
 module _ {S : Type 0} (n : ℕ) (meets : Meets n) (H K : Past) (s t : State S) (d f : ℕ → List EntryFields) (I : Inv n H s d) (G : Grows H K) (W : Sound K n) where
-  pub acted : (i : ℕ) → ((j : ℕ) → (j ≡ i → ⊥) → Still H K j) → (c : Card) (log list : List EntryFields) → Acted i s t d f c log list → CardOk K n i (view c) log list → ((k : ℕ) → RowOk K n (suc k) (get_or c.peers.rows k blank_row)) → ((j r k : ℕ) → All (FrameOk K n j) (t.lanes j r k)) → ((j r : ℕ) → Waiting K n j r (t.lanes j r 0)) → Inv n K t f
+  pub acted : (i : ℕ) → ((j : ℕ) → (j ≡ i → ⊥) → Still H K j) → (c : Card) (log list : List EntryFields) → Acted i s t d f c log list → CardOk K n i (view c) log list → ((k : ℕ) → RowOk K n (suc k) (get_or c.peers.rows k blank_row)) → ((j r k : ℕ) → AllByRecursion (FrameOk K n j) (t.lanes j r k)) → ((j r : ℕ) → Waiting K n j r (t.lanes j r 0)) → Inv n K t f
   acted i still c log list A ok rows frames waits = record { sound = W; card = card; row = row; frame = frames; waiting = waits }
     where
       card : (j : ℕ) → CardOk K n j (view (t.cards j)) (t.logs j) (f j)
@@ -66,7 +66,7 @@ module _ {S : Type 0} (n : ℕ) (meets : Meets n) (H K : Past) (s t : State S) (
           other ne = subst (λ x. RowOk K n (suc k) (get_or x.peers.rows k blank_row)) (sym (A.cards j ne)) (row_keeps H K n G (suc k) _ (I.row j k))
 
   -- lanes that were not touched
-  pub frames_keep : (j r k : ℕ) → All (FrameOk K n j) (s.lanes j r k)
+  pub frames_keep : (j r k : ℕ) → AllByRecursion (FrameOk K n j) (s.lanes j r k)
   frames_keep j r k = All-weaker (FrameOk H n j) (FrameOk K n j) (frame_keeps H K n G j) _ (I.frame j r k)
 
   pub waits_keep : (j r : ℕ) → Waiting K n j r (s.lanes j r 0)
@@ -94,7 +94,7 @@ lane_other P j r k a f ne old x y =
     (at_all (λ y (g : ℕ → _). P j y (g 0)) r (at k a (f j r)) (f j) (subst (P j r) (sym (at_other k a (f j r) 0 ne)) (old j r)) (λ y _. old j y) y) (λ x _. old x y) x
 
 -- the largest of some rows is one of them
-pub largest_one : {A : Type 0} (P : A → Type 0) (up_to : A → A → Bool) (x : A) (xs : List A) → P x → All P xs → P (largest_of up_to x xs)
+pub largest_one : {A : Type 0} (P : A → Type 0) (up_to : A → A → Bool) (x : A) (xs : List A) → P x → AllByRecursion P xs → P (largest_of up_to x xs)
 largest_one P up_to x [] p h = p
 largest_one P up_to x (y ∷ ys) p h = largest_one P up_to _ ys (pick (up_to x y)) h.1
   where
@@ -113,6 +113,6 @@ count_bound up_to low high row (suc n) p h = one (up_to low (row 1) && up_to (ro
     one false true i l = omega arith
     one false false i l = omega arith
 
-pub all_rows : {A : Type 0} (P : A → Type 0) (row : ℕ → A) (n : ℕ) → ((j : ℕ) → P (row j)) → All P (rows_of row n)
+pub all_rows : {A : Type 0} (P : A → Type 0) (row : ℕ → A) (n : ℕ) → ((j : ℕ) → P (row j)) → AllByRecursion P (rows_of row n)
 all_rows P row zero h = tt
 all_rows P row (suc n) h = (h 1, all_rows P (λ j. row (suc j)) n (λ j. h (suc j)))

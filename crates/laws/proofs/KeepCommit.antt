@@ -1,6 +1,6 @@
 -- commit keeps the invariant, with what it delivers added to the card's list.
 use Rattle.std.proofs.Common.{◌≡◌, ℕ, suc, ◌+◌, ◌<◌, ◌≤◌, Bool, true, false, cond, not, ◌&&◌, eqb, ltb, leb, List, [], ◌∷◌, ◌++◌, length, take, Some, None, filter, Option, sym, refl, ap, ◌∙◌, subst, arith}
-use Rattle.std.specs.List.{AllByRecursion as All}
+use Rattle.std.specs.List.{AllByRecursion}
 use Rattle.std.proofs.ByRecursion.{All-weaker}
 use Rattle.std.proofs.lemmas.List.{append_assoc, append-nil}
 use Rattle.std.proofs.lemmas.Bool.{true≢false, not-false, eqb-true, eqb-false, and_parts, leb-true, lt-ltb}
@@ -27,7 +27,7 @@ use Rattle.laws.proofs.Found.{InLog, in_log, inside_start, keeps_first, keeps_se
 lt_from : {a b c d e f : ℕ} → Up a b c d → Lt c d e f → Lt a b e f
 lt_from u w = record { epoch = omega (arith, u.epoch, w.epoch); count = λ q. omega (arith, u.count (omega (arith, u.epoch, w.epoch, q)), w.count (omega (arith, u.epoch, w.epoch, q))) }
 
-all_second : {X : Type 0} (P : X → Type 0) (xs ys : List X) → All P (xs ++ ys) → All P ys
+all_second : {X : Type 0} (P : X → Type 0) (xs ys : List X) → AllByRecursion P (xs ++ ys) → AllByRecursion P ys
 all_second P [] ys h = h
 all_second P (x ∷ xs) ys h = all_second P xs ys h.1
 
@@ -80,10 +80,10 @@ module _ {S : Type 0} (z : Sizes) (meets : Meets z.cards) (H : Past) (s : State 
 
   -- committed is at most where the card last delivered
   com_mark : ((s.cards i).committed.1 < 8) × Up (hn (s.cards i).committed) (s.cards i).committed.2 (H.mark i).0 (H.mark i).1
-  com_mark = subst (λ (h : Header). (h.1 < 8) × Up (hn h) h.2 (H.mark i).0 (H.mark i).1) (sym C.com_last) (last_of (λ (h : Header). (h.1 < 8) × Up (hn h) h.2 (H.mark i).0 (H.mark i).1) (0, 0, 0) (d i) (omega arith, record { epoch = omega arith; count = λ _. omega arith }) (subst (All _) (sym C.list_is) (All-weaker (UpTo (H.mark i).0 (H.mark i).1) _ (λ x u. (u.led, u.upto)) _ (hist_upto H z.cards I.sound _ _ (chosen_won H z.cards I.sound meets _ _ C.mark_chosen)))))
+  com_mark = subst (λ (h : Header). (h.1 < 8) × Up (hn h) h.2 (H.mark i).0 (H.mark i).1) (sym C.com_last) (last_of (λ (h : Header). (h.1 < 8) × Up (hn h) h.2 (H.mark i).0 (H.mark i).1) (0, 0, 0) (d i) (omega arith, record { epoch = omega arith; count = λ _. omega arith }) (subst (AllByRecursion _) (sym C.list_is) (All-weaker (UpTo (H.mark i).0 (H.mark i).1) _ (λ x u. (u.led, u.upto)) _ (hist_upto H z.cards I.sound _ _ (chosen_won H z.cards I.sound meets _ _ C.mark_chosen)))))
 
-  list_upto : All (λ (x : EntryFields). header_up_to x.header (s.cards i).committed ≡ true) (d i)
-  list_upto = subst (λ h. All (λ (x : EntryFields). header_up_to x.header h ≡ true) (d i)) (sym C.com_last) (rising_last (0, 0, 0) (d i) (subst Rising (sym C.list_is) (hist_rising H z.cards I.sound _ _ (chosen_won H z.cards I.sound meets _ _ C.mark_chosen))))
+  list_upto : AllByRecursion (λ (x : EntryFields). header_up_to x.header (s.cards i).committed ≡ true) (d i)
+  list_upto = subst (λ h. AllByRecursion (λ (x : EntryFields). header_up_to x.header h ≡ true) (d i)) (sym C.com_last) (rising_last (0, 0, 0) (d i) (subst Rising (sym C.list_is) (hist_rising H z.cards I.sound _ _ (chosen_won H z.cards I.sound meets _ _ C.mark_chosen))))
 
   beyond_lt : (x : EntryFields) → Beyond (H.mark i).0 (H.mark i).1 x → Lt (hn (s.cards i).committed) (s.cards i).committed.2 (hn x.header) x.header.2
   beyond_lt x b = lt_from com_mark.1 b.beyond
@@ -104,7 +104,7 @@ module _ {S : Type 0} (z : Sizes) (meets : Meets z.cards) (H : Past) (s : State 
   record DueOk (due : List EntryFields) : Type 0 where
     list : d i ++ due ≡ hist H e (s.cards i).next.2
     within : (s.cards i).next.2 ≤ (s.cards i).accepted.2
-    each : All (λ (x : EntryFields). ComOk x.header) due
+    each : AllByRecursion (λ (x : EntryFields). ComOk x.header) due
 
   next_is : (k : ℕ) → (s.cards i).next.2 ≡ k → (s.cards i).next ≡ ((s.cards i).current.0, (s.cards i).current.1, k)
   next_is k q = λ t. (ap (λ (y : Epoch). y.0) C.next_cur t, ap (λ (y : Epoch). y.1) C.next_cur t, q t)
@@ -113,7 +113,7 @@ module _ {S : Type 0} (z : Sizes) (meets : Meets z.cards) (H : Past) (s : State 
   due_open zero_count = subst DueOk (sym due_is) (record {
     list = ap (λ ys. ys ++ w.rest) C.list_is ∙ sym w.is ∙ ap (λ k. hist H e k) (sym zero_count);
     within = omega (arith, zero_count);
-    each = All-weaker (Before e) (λ (x : EntryFields). ComOk x.header) (λ x b. record { led = b.led; chosen_if = λ q. absurd (omega (arith, q, b.below)); upto = record { epoch = omega (arith, b.below); count = λ q. absurd (omega (arith, q, b.below)) } }) w.rest (all_second (Before e) (hist H (H.mark i).0 (H.mark i).1) w.rest (subst (All (Before e)) start (I.sound.entries e C.cur_won)));
+    each = All-weaker (Before e) (λ (x : EntryFields). ComOk x.header) (λ x b. record { led = b.led; chosen_if = λ q. absurd (omega (arith, q, b.below)); upto = record { epoch = omega (arith, b.below); count = λ q. absurd (omega (arith, q, b.below)) } }) w.rest (all_second (Before e) (hist H (H.mark i).0 (H.mark i).1) w.rest (subst (AllByRecursion (Before e)) start (I.sound.entries e C.cur_won)));
   })
     where
       w : Starts H z.cards I.sound (H.mark i).0 (H.mark i).1 (hist H e 0)
@@ -128,7 +128,7 @@ module _ {S : Type 0} (z : Sizes) (meets : Meets z.cards) (H : Past) (s : State 
           ∙ ap (filter (inside (s.cards i).committed ((s.cards i).current.0, (s.cards i).current.1, 0))) C.log_is
           ∙ inside_start H z.cards I.sound (s.cards i).committed (s.cards i).current.0 (s.cards i).current.1 (s.cards i).accepted.2 C.cur_led C.cur_won
           ∙ keeps_second (λ (x : EntryFields). header_below (s.cards i).committed x.header) (H.start e) (hist H (H.mark i).0 (H.mark i).1) w.rest start
-          (subst (All (λ (x : EntryFields). header_below (s.cards i).committed x.header ≡ false)) C.list_is (All-weaker _ _ (λ x t. upto_not_below x.header (s.cards i).committed t) (d i) list_upto))
+          (subst (AllByRecursion (λ (x : EntryFields). header_below (s.cards i).committed x.header ≡ false)) C.list_is (All-weaker _ _ (λ x t. upto_not_below x.header (s.cards i).committed t) (d i) list_upto))
           (All-weaker (Beyond (H.mark i).0 (H.mark i).1) _ (λ x b. below_header (s.cards i).committed.0 (s.cards i).committed.1 (s.cards i).committed.2 x.header.0 x.header.1 x.header.2 C.com_led b.led (beyond_lt x b)) _ w.beyond)
 
   due_entry : Chosen H z.cards e (s.cards i).next.2 → 0 < (s.cards i).next.2 → (o : Option EntryFields) → entry_at (s.cards i).next (s.logs i) ≡ o → eqb (length (one_or_none o)) 0 ≡ false → DueOk (one_or_none o)

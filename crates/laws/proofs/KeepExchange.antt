@@ -1,6 +1,6 @@
 -- push, look and stop keep the invariant.
 use Rattle.std.proofs.Common.{◌≡◌, ℕ, suc, ◌-◌, ◌≤◌, Bool, true, false, cond, not, ◌&&◌, eqb, leb, ◌⊎◌, List, [], ◌∷◌, ◌++◌, length, get_or, drop, sym, refl, ap, subst, inl, inr, arith}
-use Rattle.std.specs.List.{AllByRecursion as All}
+use Rattle.std.specs.List.{AllByRecursion}
 use Rattle.std.proofs.ByRecursion.{All-drop, All-push}
 use Rattle.std.proofs.lemmas.Bool.{true≢false, not-false, eqb-true, eqb-false, and_parts, leb-true}
 use Rattle.marks.specs.Kinds.{epoch_of}
@@ -31,7 +31,7 @@ row_kinds kind h =
     pick : 4 ≤ kind → kind ≤ 6 → (kind ≡ 4) ⊎ ((kind ≡ 5) ⊎ (kind ≡ 6))
     pick a b = grind arith
 
-pub front_ok : (P : FrameFields → Type 0) (lane : List FrameFields) → All P lane → eqb (length lane) 0 ≡ false → P (front lane)
+pub front_ok : (P : FrameFields → Type 0) (lane : List FrameFields) → AllByRecursion P lane → eqb (length lane) 0 ≡ false → P (front lane)
 front_ok P [] h e = absurd (true≢false e)
 front_ok P (f ∷ fs) h e = h.0
 
@@ -59,7 +59,7 @@ module _ {S : Type 0} (z : Sizes) (meets : Meets z.cards) (H : Past) (s : State 
           sound = I.sound;
           card = I.card;
           row = I.row;
-          frame = lane_all (λ x y w f. All (FrameOk H z.cards x) f) i j kind (s.lanes i j kind ++ own_row (s.cards i) kind ∷ []) s.lanes (All-push (FrameOk H z.cards i) (s.lanes i j kind) (own_row (s.cards i) kind) (I.frame i j kind) (own_ok kind kinds p.1.1.1.0)) I.frame;
+          frame = lane_all (λ x y w f. AllByRecursion (FrameOk H z.cards x) f) i j kind (s.lanes i j kind ++ own_row (s.cards i) kind ∷ []) s.lanes (All-push (FrameOk H z.cards i) (s.lanes i j kind) (own_row (s.cards i) kind) (I.frame i j kind) (own_ok kind kinds p.1.1.1.0)) I.frame;
           waiting = lane_other (λ x y f. Waiting H z.cards x y f) i j kind (s.lanes i j kind ++ own_row (s.cards i) kind ∷ []) s.lanes (λ q. omega (arith, q, kinds)) I.waiting;
         },
       )
@@ -89,7 +89,7 @@ module _ {S : Type 0} (z : Sizes) (meets : Meets z.cards) (H : Past) (s : State 
         acted z.cards meets H H s t d d I (same_grows H) I.sound i (λ j _. same_still H j) card (s.logs i) (d i)
             (record { card = at_same i card s.cards; log_is = refl; list_is = refl; cards = λ j ne. at_other i card s.cards j ne; logs = λ _ _. refl; lists = λ _ _. refl })
             C (stored_rows j (front (s.lanes j i kind)) (peer_place z i j p.0) (front_ok (FrameOk H z.cards j) (s.lanes j i kind) (I.frame j i kind) p.1.1.1.0) (subst (λ k. (k ≡ 4) ⊎ ((k ≡ 5) ⊎ (k ≡ 6))) (sym (eqb-true _ _ (not-false _ p.1.1.1.1.0))) kinds))
-            (lane_all (λ x y w f. All (FrameOk H z.cards x) f) j i kind (drop 1 (s.lanes j i kind)) s.lanes (All-drop (FrameOk H z.cards j) 1 (s.lanes j i kind) (I.frame j i kind)) I.frame)
+            (lane_all (λ x y w f. AllByRecursion (FrameOk H z.cards x) f) j i kind (drop 1 (s.lanes j i kind)) s.lanes (All-drop (FrameOk H z.cards j) 1 (s.lanes j i kind) (I.frame j i kind)) I.frame)
             (lane_other (λ x y f. Waiting H z.cards x y f) j i kind (drop 1 (s.lanes j i kind)) s.lanes (λ q. omega (arith, q, kinds)) I.waiting),
       )
     where

@@ -1,6 +1,6 @@
 -- ship keeps the invariant.
 use Rattle.std.proofs.Common.{◌≡◌, ℕ, suc, ◌+◌, ◌-◌, ◌*◌, ◌<◌, ◌≤◌, true, false, ◌||◌, eqb, List, [], ◌∷◌, ◌++◌, map, length, get_or, take, Some, None, filter, Option, sym, refl, ap, ◌∙◌, subst, arith}
-use Rattle.std.specs.List.{AllByRecursion as All}
+use Rattle.std.specs.List.{AllByRecursion}
 use Rattle.std.proofs.ByRecursion.{All-append}
 use Rattle.std.proofs.lemmas.List.{append_assoc, append-nil}
 use Rattle.std.proofs.lemmas.Bool.{true≢false, not-false, eqb-false, or_parts}
@@ -31,11 +31,11 @@ waiting_more H n j i lane p w ok = record { parcels = w.parcels ++ p ∷ []; is 
 no_row : (H : Past) (n j : ℕ) (f : FrameFields) → f.kind ≤ 3 → FrameOk H n j f
 no_row H n j f l = record { accept = λ e. absurd (omega (arith, e, l)); vote = λ e. absurd (omega (arith, e, l)); commit = λ e. absurd (omega (arith, e, l)) }
 
-no_rows : (H : Past) (n j kind : ℕ) (xs : List EntryFields) → kind ≤ 3 → All (FrameOk H n j) (map (entry_frame kind) xs)
+no_rows : (H : Past) (n j kind : ℕ) (xs : List EntryFields) → kind ≤ 3 → AllByRecursion (FrameOk H n j) (map (entry_frame kind) xs)
 no_rows H n j kind [] l = tt
 no_rows H n j kind (x ∷ xs) l = (no_row H n j (entry_frame kind x) l, no_rows H n j kind xs l)
 
-parcel_rows : (H : Past) (n j : ℕ) (p : Parcel) → All (FrameOk H n j) (frames_of p)
+parcel_rows : (H : Past) (n j : ℕ) (p : Parcel) → AllByRecursion (FrameOk H n j) (frames_of p)
 parcel_rows H n j (message x) = (no_row H n j (entry_frame 1 x) (omega arith), tt)
 parcel_rows H n j (diff e base xs) = (no_row H n j _ (omega arith), no_rows H n j 3 xs (omega arith))
 
@@ -118,7 +118,7 @@ module _ {S : Type 0} (z : Sizes) (meets : Meets z.cards) (H : Past) (s : State 
         acted z.cards meets H H s t d d I (same_grows H) I.sound i (λ j _. same_still H j) card (s.logs i) (d i)
             (record { card = at_same i card s.cards; log_is = refl; list_is = refl; cards = λ j ne. at_other i card s.cards j ne; logs = λ _ _. refl; lists = λ _ _. refl })
             (I.card i) rows
-            (lane_all (λ x y w f. All (FrameOk H z.cards x) f) i j 0 lane s.lanes (All-append _ (s.lanes i j 0) (shipment_to i j s) (I.frame i j 0) (subst (All (FrameOk H z.cards i)) (sym sent.is) (parcel_rows H z.cards i sent.parcel))) I.frame)
+            (lane_all (λ x y w f. AllByRecursion (FrameOk H z.cards x) f) i j 0 lane s.lanes (All-append _ (s.lanes i j 0) (shipment_to i j s) (I.frame i j 0) (subst (AllByRecursion (FrameOk H z.cards i)) (sym sent.is) (parcel_rows H z.cards i sent.parcel))) I.frame)
             (lane_zero (λ x y f. Waiting H z.cards x y f) i j lane s.lanes (subst (λ f. Waiting H z.cards i j (s.lanes i j 0 ++ f)) (sym sent.is) (waiting_more H z.cards i j (s.lanes i j 0) sent.parcel (I.waiting i j) sent.ok)) I.waiting),
       )
     where

@@ -1,6 +1,6 @@
 -- take keeps the invariant: what it finds in front is a whole message or diff.
 use Rattle.std.proofs.Common.{◌≡◌, ℕ, suc, ◌+◌, ◌-◌, ◌<◌, ◌≤◌, Bool, true, false, cond, not, ◌&&◌, eqb, List, [], ◌∷◌, ◌++◌, map, length, get_or, take, drop, filter, sym, refl, ap, ◌∙◌, subst, ⊎_elim, arith}
-use Rattle.std.specs.List.{AllByRecursion as All}
+use Rattle.std.specs.List.{AllByRecursion}
 use Rattle.std.proofs.ByRecursion.{All-drop, All-weaker}
 use Rattle.std.proofs.lemmas.List.{append_assoc, append-nil, drop_at, take_at, length-map}
 use Rattle.std.proofs.lemmas.Bool.{true≢false, not-true, not-false, eqb-true, and_parts, cases_Bool, cases_lt, eq-eqb, ltb-false}
@@ -32,12 +32,12 @@ record InFront (H : Past) (n j i : ℕ) (lane : List FrameFields) : Type 0 where
   others : List Parcel
   is : lane ≡ frames_of parcel ++ laid others
   ok : ParcelOk H n j i parcel
-  others_ok : All (ParcelOk H n j i) others
+  others_ok : AllByRecursion (ParcelOk H n j i) others
 
 in_front : (H : Past) (n j i : ℕ) (lane : List FrameFields) → Waiting H n j i lane → eqb (length lane) 0 ≡ false → InFront H n j i lane
 in_front H n j i lane w some = by w.parcels w.is w.ok
   where
-    by : (ps : List Parcel) → lane ≡ laid ps → All (ParcelOk H n j i) ps → InFront H n j i lane
+    by : (ps : List Parcel) → lane ≡ laid ps → AllByRecursion (ParcelOk H n j i) ps → InFront H n j i lane
     by [] e ok = absurd (true≢false (sym (eq-eqb (length lane) 0 (ap length e)) ∙ some))
     by (p ∷ ps) e ok = record { parcel = p; others = ps; is = e; ok = ok.0; others_ok = ok.1 }
 
@@ -111,8 +111,8 @@ module _ {S : Type 0} (z : Sizes) (meets : Meets z.cards) (H : Past) (s : State 
   left : Waiting H z.cards j i after
   left = record { parcels = F.others; is = left_is; ok = F.others_ok }
 
-  frames_left : (x y w : ℕ) → All (FrameOk H z.cards x) (at_lane j i 0 after s.lanes x y w)
-  frames_left = lane_all (λ x y w f. All (FrameOk H z.cards x) f) j i 0 after s.lanes (All-drop (FrameOk H z.cards j) (front_size (s.lanes j i 0)) (s.lanes j i 0) (I.frame j i 0)) I.frame
+  frames_left : (x y w : ℕ) → AllByRecursion (FrameOk H z.cards x) (at_lane j i 0 after s.lanes x y w)
+  frames_left = lane_all (λ x y w f. AllByRecursion (FrameOk H z.cards x) f) j i 0 after s.lanes (All-drop (FrameOk H z.cards j) (front_size (s.lanes j i 0)) (s.lanes j i 0) (I.frame j i 0)) I.frame
 
   waits_left : (x y : ℕ) → Waiting H z.cards x y (at_lane j i 0 after s.lanes x y 0)
   waits_left = lane_zero (λ x y f. Waiting H z.cards x y f) j i after s.lanes left I.waiting

@@ -1,7 +1,7 @@
 -- timeout, elect and win keep the invariant.
 use Rattle.std.proofs.Common.{◌≡◌, ℕ, suc, ◌+◌, ◌-◌, ◌*◌, ◌%◌, ◌<◌, ◌≤◌, Bool, true, false, cond, ◌&&◌, eqb, ltb, leb, List, is_err, Ok, Err, Result, sym, refl, ap, ◌∙◌, subst, inl, inr, ⊎_elim, arith}
 use Rattle.std.specs.Result.{result_unwrap_or}
-use Rattle.std.specs.List.{AllByRecursion as All}
+use Rattle.std.specs.List.{AllByRecursion}
 use Rattle.std.proofs.lemmas.Bool.Decides.{nat_tests}
 use Rattle.std.proofs.lemmas.Bool.{and_parts, leb-true, true≢false, not-false, ltb-true, leb-false, not-true, cases_order}
 use Rattle.refusals.specs.declared.Refusal.{Refusal}
@@ -157,7 +157,7 @@ module _ {S : Type 0} (z : Sizes) (meets : Meets z.cards) (H : Past) (s : State 
   own_cast_ok : Cast (s.cards i).vote
   own_cast_ok = (i, record { led = (I.card i).vote_led; cast = (I.card i).vote_cast; header = (I.card i).vote_head })
 
-  all_cast : All Cast (vote_rows z.cards i (s.cards i).vote (s.cards i).peers)
+  all_cast : AllByRecursion Cast (vote_rows z.cards i (s.cards i).vote (s.cards i).peers)
   all_cast = all_rows Cast (vote_of i (s.cards i).vote (s.cards i).peers) z.cards each
     where
       each : (j : ℕ) → Cast (vote_of i (s.cards i).vote (s.cards i).peers j)

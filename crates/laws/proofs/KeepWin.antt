@@ -1,6 +1,6 @@
 -- win keeps the invariant.
 use Rattle.std.proofs.Common.{◌≡◌, ℕ, suc, ◌%◌, ◌<◌, ◌≤◌, Bool, true, false, cond, ◌&&◌, eqb, leb, List, [], length, sym, refl, ap, ◌∙◌, subst, ⊎_elim, arith}
-use Rattle.std.specs.List.{AllByRecursion as All}
+use Rattle.std.specs.List.{AllByRecursion}
 use Rattle.std.proofs.ByRecursion.{All-weaker}
 use Rattle.std.proofs.lemmas.List.{append-nil}
 use Rattle.std.proofs.lemmas.Bool.{not-false, and_parts, leb-true, eqb-true, cases_lt}
@@ -87,7 +87,7 @@ module _ {S : Type 0} (z : Sizes) (meets : Meets z.cards) (H : Past) (s : State 
     same_sent = λ _ w _. absurd (fresh w);
     held = omega arith;
     higher = ⊎_elim (λ t. absurd (omega (arith, higher, C.top_below _ t))) (λ t. omega arith) (cases_lt 0 (H.top i (en (s.cards i).newest)));
-    before = subst (All (Before (en (s.cards i).newest))) (sym C.log_is) (All-weaker (UpTo (en (s.cards i).current) (s.cards i).accepted.2) (Before (en (s.cards i).newest)) (λ x u. record { led = u.led; counted = u.counted; below = omega (arith, u.upto.epoch, higher) }) _ (hist_upto H z.cards I.sound _ _ C.cur_won));
+    before = subst (AllByRecursion (Before (en (s.cards i).newest))) (sym C.log_is) (All-weaker (UpTo (en (s.cards i).current) (s.cards i).accepted.2) (Before (en (s.cards i).newest)) (λ x u. record { led = u.led; counted = u.counted; below = omega (arith, u.upto.epoch, higher) }) _ (hist_upto H z.cards I.sound _ _ C.cur_won));
     rising = subst Rising (sym C.log_is) (hist_rising H z.cards I.sound _ _ C.cur_won);
     numbered = tt;
     voted = voted;

@@ -1,6 +1,6 @@
 -- The laws of every run.
 use Rattle.std.proofs.Common.{◌≡◌, ℕ, zero, suc, ◌+◌, ◌<◌, ◌≤◌, true, ◌⊎◌, List, [], ◌∷◌, ◌++◌, length, get_or, sym, refl, ap, ◌∙◌, subst, inl, inr, ⊎_elim, arith}
-use Rattle.std.specs.List.{AllByRecursion as All}
+use Rattle.std.specs.List.{AllByRecursion}
 use Rattle.std.proofs.lemmas.List.{append_assoc, length-append, get_or_append_left}
 use Rattle.std.proofs.ByRecursion.{All-get_or, all_kept_by}
 use Rattle.std.proofs.lemmas.Bool.{not-false, cases_order, cases_lt, ltb-true, le-leb}
@@ -262,7 +262,7 @@ module _ {S : Type 0} (start : S) (apply : ℕ → Words → S → S) (z : Sizes
   Submitted calls x = (l : ℕ) × Submits start apply z calls l x
 
   submitted : (calls : List Call) (k i p : ℕ) (x : EntryFields) → ItemAt (delivered_at start apply z calls k i) p x → (l : ℕ) × Submits start apply z calls l x
-  submitted calls k i p x a = subst (Submitted calls) a.1 (All-get_or (Submitted calls) (delivered_at start apply z calls k i) p x a.0 (subst (All (Submitted calls)) (read calls k i) (all_kept_by _ (Submitted calls) ((state_at start apply z calls k).logs i) (sources.log i))))
+  submitted calls k i p x a = subst (Submitted calls) a.1 (All-get_or (Submitted calls) (delivered_at start apply z calls k i) p x a.0 (subst (AllByRecursion (Submitted calls)) (read calls k i) (all_kept_by _ (Submitted calls) ((state_at start apply z calls k).logs i) (sources.log i))))
     where
       sources : From start apply z (Submitted calls) (state_at start apply z calls k)
       sources = from_run start apply z (Submitted calls) calls (opened start) (record { log = λ _. tt; lane = λ _ _. tt }) (λ l j q w h p. (l, record { card = j; called = h; answered = ap (λ t. t.0) (ask_passed (booking.submit_checks z j q (state_at start apply z calls l)) (Placed (booking.place_after ((state_at start apply z calls l).cards j).accepted)) (booking.submitted j q w (state_at start apply z calls l)) (state_at start apply z calls l) p) })) k

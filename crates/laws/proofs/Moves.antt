@@ -1,6 +1,6 @@
 -- How the past grows: a ballot, a win or acceptance, a delivery.
 use Rattle.std.proofs.Common.{◌≡◌, ℕ, suc, ◌%◌, ◌<◌, ◌≤◌, Bool, true, ◌⊎◌, List, length, take, sym, refl, ap, ◌∙◌, subst, ⊎_elim, arith}
-use Rattle.std.specs.List.{AllByRecursion as All}
+use Rattle.std.specs.List.{AllByRecursion}
 use Rattle.marks.specs.Kinds.{Header}
 use Rattle.frames.specs.Fields.{EntryFields}
 use Rattle.protocol.specs.Rows.{majority}
@@ -89,7 +89,7 @@ pub record Move (H : Past) (n i e k : ℕ) (st sn : List EntryFields) : Type 0 w
   pub same_sent : (m : ℕ) → H.won e ≡ true → m ≤ length (H.sent e) → take m sn ≡ take m (H.sent e)
   pub held : k ≤ length sn
   pub higher : H.top i e ≤ suc k
-  pub before : All (Before e) st
+  pub before : AllByRecursion (Before e) st
   pub rising : Rising st
   pub numbered : Numbered e 1 sn
   pub voted : majority n ≤ how_many (λ q. H.cast (suc q) e) n
@@ -145,7 +145,7 @@ module _ (H : Past) (n i e k : ℕ) (st sn : List EntryFields) (W : Sound H n) (
     head_below = W.head_below;
     head_led = W.head_led;
     from = at_all (λ x b. b ≡ true → 0 < x → WonFrom (moved H i e k st sn) n x) e true H.won (λ _ _. new_from) (λ x _ w p. from_keeps H (moved H i e k st sn) n moved_grows x w (W.from x w p));
-    entries = at_all (λ x b. b ≡ true → All (Before x) ((moved H i e k st sn).start x)) e true H.won (λ _. subst (All (Before e)) (sym (at_same e st H.start)) M.before) (λ x _ w. subst (All (Before x)) (sym (moved_grows.start x w)) (W.entries x w));
+    entries = at_all (λ x b. b ≡ true → AllByRecursion (Before x) ((moved H i e k st sn).start x)) e true H.won (λ _. subst (AllByRecursion (Before e)) (sym (at_same e st H.start)) M.before) (λ x _ w. subst (AllByRecursion (Before x)) (sym (moved_grows.start x w)) (W.entries x w));
     rising = at_all (λ x b. b ≡ true → Rising ((moved H i e k st sn).start x)) e true H.won (λ _. subst Rising (sym (at_same e st H.start)) M.rising) (λ x _ w. subst Rising (sym (moved_grows.start x w)) (W.rising x w));
     numbered = at_all (λ x b. b ≡ true → Numbered x 1 ((moved H i e k st sn).sent x)) e true H.won (λ _. subst (Numbered e 1) (sym new_sent) M.numbered) (λ x ne w. subst (Numbered x 1) (sym (at_other e sn H.sent x ne)) (W.numbered x w));
   }

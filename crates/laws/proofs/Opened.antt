@@ -1,6 +1,6 @@
 -- The invariant holds of an opened rack.
 use Rattle.std.proofs.Common.{◌≡◌, ℕ, zero, suc, ◌<◌, ◌≤◌, Bool, true, false, cond, eqb, ltb, List, [], ◌∷◌, get_or, sym, refl, subst, arith}
-use Rattle.std.specs.List.{AllByRecursion as All}
+use Rattle.std.specs.List.{AllByRecursion}
 use Rattle.std.proofs.lemmas.Bool.{true≢false, eqb-true}
 use Rattle.protocol.specs.Rows.{blank_row, blank_table}
 use Rattle.protocol.specs.Rack.{opened_card, opened}
@@ -42,7 +42,7 @@ opened_sound n = record {
 null_chosen : (n : ℕ) → Chosen no_past n 0 0
 null_chosen n = omega (arith, how_many_all (λ q. ltb 0 (no_past.top (suc q) 0)) n (λ _. refl))
 
-all_same : {A : Type 0} (b : A) (xs : List A) (k : ℕ) → All (λ x. x ≡ b) xs → get_or xs k b ≡ b
+all_same : {A : Type 0} (b : A) (xs : List A) (k : ℕ) → AllByRecursion (λ x. x ≡ b) xs → get_or xs k b ≡ b
 all_same b [] k h = refl
 all_same b (x ∷ xs) zero h = h.0
 all_same b (x ∷ xs) (suc k) h = all_same b xs k h.1

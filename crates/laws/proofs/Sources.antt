@@ -1,6 +1,6 @@
 -- What needs no past: machines, the tally, and where entries come from.
 use Rattle.std.proofs.Common.{◌≡◌, ℕ, zero, suc, ◌+◌, Bool, true, false, cond, ◌&&◌, ◌||◌, eqb, List, [], ◌∷◌, ◌++◌, map, length, drop, is_ok, Some, None, Option, sym, refl, ap, ◌∙◌, subst, ⊎_elim, arith}
-use Rattle.std.specs.List.{AllByRecursion as All}
+use Rattle.std.specs.List.{AllByRecursion}
 use Rattle.std.proofs.ByRecursion.{All-append, All-drop, All-take, All-map, all_kept_by, All-push}
 use Rattle.std.proofs.lemmas.Bool.{eq-eqb, ne_eqb, eqb-true, and_right, and_parts, not-false, cases_eq}
 use Rattle.marks.specs.Kinds.{Header}
@@ -94,25 +94,25 @@ module _ {S : Type 0} (start : S) (apply : ℕ → Words → S → S) (z : Sizes
       pub entry : f.kind ≡ 3 → Q (entry_of f)
 
     pub record From (s : State S) : Type 0 where
-      pub log : (i : ℕ) → All Q (s.logs i)
-      pub lane : (j i : ℕ) → All Carries (s.lanes j i 0)
+      pub log : (i : ℕ) → AllByRecursion Q (s.logs i)
+      pub lane : (j i : ℕ) → AllByRecursion Carries (s.lanes j i 0)
 
-    carried : (kind : ℕ) (xs : List EntryFields) → All Q xs → All Carries (map (entry_frame kind) xs)
+    carried : (kind : ℕ) (xs : List EntryFields) → AllByRecursion Q xs → AllByRecursion Carries (map (entry_frame kind) xs)
     carried kind [] h = tt
     carried kind (x ∷ xs) h = (record { message = λ _. h.0; entry = λ _. h.0 }, carried kind xs h.1)
 
-    ship_carries : (c : Card) (base : Header) (o : Option ℕ) (log : List EntryFields) → All Q log → All Carries (shipment c base o log)
+    ship_carries : (c : Card) (base : Header) (o : Option ℕ) (log : List EntryFields) → AllByRecursion Q log → AllByRecursion Carries (shipment c base o log)
     ship_carries c base None log h = (record { message = λ e. absurd (omega (arith, e)); entry = λ e. absurd (omega (arith, e)) }, carried 3 _ (all_kept_by _ Q log h))
     ship_carries c base (Some k) log h = by (entry_at wanted log) refl
       where
         wanted : Header
         wanted = (c.current.0, c.current.1, k + 1)
 
-        by : (o : Option EntryFields) → entry_at wanted log ≡ o → All Carries (message_frames o)
+        by : (o : Option EntryFields) → entry_at wanted log ≡ o → AllByRecursion Carries (message_frames o)
         by None e = tt
         by (Some x) e = carried 1 (x ∷ []) ((found_one Q wanted log x h e).0, tt)
 
-    body_kinds : (low high : Header) (fs : List FrameFields) → rising_between low high fs ≡ true → All Carries fs → All (λ f. Q (entry_of f)) fs
+    body_kinds : (low high : Header) (fs : List FrameFields) → rising_between low high fs ≡ true → AllByRecursion Carries fs → AllByRecursion (λ f. Q (entry_of f)) fs
     body_kinds low high [] t h = tt
     body_kinds low high (f ∷ fs) t h =
         let rest = rising_between (header_of f) high fs in
@@ -121,45 +121,45 @@ module _ {S : Type 0} (start : S) (apply : ℕ → Words → S → S) (z : Sizes
         let c = and_parts (header_below (header_of f) high) rest b.1 in
         (h.0.entry (eqb-true _ _ a.0), body_kinds (header_of f) high fs c.1 h.1)
 
-    taken_log : (lane : List FrameFields) (log : List EntryFields) → All Carries lane → All Q log → eqb (length lane) 0 ≡ false → is_message (front lane) || (is_diff (front lane) && whole_diff lane) ≡ true → All Q (log_after lane log)
+    taken_log : (lane : List FrameFields) (log : List EntryFields) → AllByRecursion Carries lane → AllByRecursion Q log → eqb (length lane) 0 ≡ false → is_message (front lane) || (is_diff (front lane) && whole_diff lane) ≡ true → AllByRecursion Q (log_after lane log)
     taken_log lane log c h some formed = by (is_message (front lane)) refl formed
       where
-        by : (b : Bool) → is_message (front lane) ≡ b → b || (is_diff (front lane) && whole_diff lane) ≡ true → All Q (cond b (log ++ entry_of (front lane) ∷ []) (taking.diff_log lane log))
+        by : (b : Bool) → is_message (front lane) ≡ b → b || (is_diff (front lane) && whole_diff lane) ≡ true → AllByRecursion Q (cond b (log ++ entry_of (front lane) ∷ []) (taking.diff_log lane log))
         by true e t = All-push Q log (entry_of (front lane)) h ((front_ok Carries lane c some).message (eqb-true _ _ e))
         by false e t = All-append Q _ _ (all_kept_by _ Q log h) (All-map Q entry_of (body_of lane) (body_kinds (words_header (front lane)) ((front lane).round, (front lane).leader, 0) (body_of lane) (and_parts (eqb (length (body_of lane)) (front lane).w4) (rising_between (words_header (front lane)) ((front lane).round, (front lane).leader, 0) (body_of lane)) (and_parts (is_diff (front lane)) (whole_diff lane) t).1).1 (All-take Carries (front lane).w4 (drop 1 lane) (All-drop Carries 1 lane c))))
 
     module _ (s : State S) (F : From s) where
       same_from : (t : State S) → ((i : ℕ) → t.logs i ≡ s.logs i) → ((j i : ℕ) → t.lanes j i 0 ≡ s.lanes j i 0) → From t
-      same_from t a b = record { log = λ i. subst (All Q) (sym (a i)) (F.log i); lane = λ j i. subst (All Carries) (sym (b j i)) (F.lane j i) }
+      same_from t a b = record { log = λ i. subst (AllByRecursion Q) (sym (a i)) (F.log i); lane = λ j i. subst (AllByRecursion Carries) (sym (b j i)) (F.lane j i) }
 
-      lane_from : (t : State S) (j r : ℕ) (lane : List FrameFields) → ((i : ℕ) → All Q (t.logs i)) → t.lanes ≡ Rattle.protocol.specs.Rack.at_lane j r 0 lane s.lanes → All Carries lane → From t
-      lane_from t j r lane logs is h = record { log = logs; lane = subst (λ (f : ℕ → ℕ → ℕ → List FrameFields). (j i : ℕ) → All Carries (f j i 0)) (sym is) (lane_zero (λ _ _ l. All Carries l) j r lane s.lanes h F.lane) }
+      lane_from : (t : State S) (j r : ℕ) (lane : List FrameFields) → ((i : ℕ) → AllByRecursion Q (t.logs i)) → t.lanes ≡ Rattle.protocol.specs.Rack.at_lane j r 0 lane s.lanes → AllByRecursion Carries lane → From t
+      lane_from t j r lane logs is h = record { log = logs; lane = subst (λ (f : ℕ → ℕ → ℕ → List FrameFields). (j i : ℕ) → AllByRecursion Carries (f j i 0)) (sym is) (lane_zero (λ _ _ l. AllByRecursion Carries l) j r lane s.lanes h F.lane) }
 
       from_step : (c : Call) → ((i q : ℕ) (w : Words) → c ≡ Submit i q w → Passed (booking.submit_checks z i q s) → Q (booked (s.cards i) q w)) → From (after start apply z c s)
       from_step (Timeout a) new = ask_keeps From (voting.timeout_checks z a s) _ _ s F (λ _. same_from _ (λ _. refl) (λ _ _. refl))
       from_step (Elect a) new = ask_keeps From (voting.elect_checks z a s) _ _ s F (λ _. same_from _ (λ _. refl) (λ _ _. refl))
       from_step (Win a) new = ask_keeps From (voting.win_checks z a s) _ _ s F (λ _. same_from _ (λ _. refl) (λ _ _. refl))
-      from_step (Submit a q w) new = ask_keeps From (booking.submit_checks z a q s) _ _ s F (λ p. record { log = at_all (λ _ l. All Q l) a (s.logs a ++ booked (s.cards a) q w ∷ []) s.logs (All-push Q (s.logs a) _ (F.log a) (new a q w refl p)) (λ j _. F.log j); lane = F.lane })
+      from_step (Submit a q w) new = ask_keeps From (booking.submit_checks z a q s) _ _ s F (λ p. record { log = at_all (λ _ l. AllByRecursion Q l) a (s.logs a ++ booked (s.cards a) q w ∷ []) s.logs (All-push Q (s.logs a) _ (F.log a) (new a q w refl p)) (λ j _. F.log j); lane = F.lane })
       from_step (Ship a b) new = ask_keeps From (booking.ship_checks z a b s) _ _ s F (λ _. lane_from _ a b (s.lanes a b 0 ++ shipment_to a b s) F.log refl (All-append Carries (s.lanes a b 0) _ (F.lane a b) (ship_carries (s.cards a) (row_of (s.cards a).peers b).commit (row_of (s.cards a).peers b).shipped (s.logs a) (F.log a))))
       from_step (Take a b) new = ask_keeps From (taking.take_checks z a b s) _ _ s F (λ p. pick (taking.too_low (s.cards a) (front (s.lanes b a 0))) (over p) (in_log p))
         where
           lane : List FrameFields
           lane = s.lanes b a 0
 
-          rest : All Carries (drop (taking.front_size (s.lanes b a 0)) (s.lanes b a 0))
+          rest : AllByRecursion Carries (drop (taking.front_size (s.lanes b a 0)) (s.lanes b a 0))
           rest = All-drop Carries (taking.front_size (s.lanes b a 0)) (s.lanes b a 0) (F.lane b a)
 
           over : Passed (taking.take_checks z a b s) → From (taking.passed_over a b s)
           over p = lane_from _ b a (drop (taking.front_size (s.lanes b a 0)) (s.lanes b a 0)) F.log refl rest
 
           in_log : Passed (taking.take_checks z a b s) → From (taking.entered a b s)
-          in_log p = lane_from _ b a (drop (taking.front_size (s.lanes b a 0)) (s.lanes b a 0)) (at_all (λ _ l. All Q l) a (log_after (s.lanes b a 0) (s.logs a)) s.logs (taken_log (s.lanes b a 0) (s.logs a) (F.lane b a) (F.log a) p.1.1.0 (and_parts _ _ (not-false _ p.1.1.1.0)).0) (λ j _. F.log j)) refl rest
+          in_log p = lane_from _ b a (drop (taking.front_size (s.lanes b a 0)) (s.lanes b a 0)) (at_all (λ _ l. AllByRecursion Q l) a (log_after (s.lanes b a 0) (s.logs a)) s.logs (taken_log (s.lanes b a 0) (s.logs a) (F.lane b a) (F.log a) p.1.1.0 (and_parts _ _ (not-false _ p.1.1.1.0)).0) (λ j _. F.log j)) refl rest
 
           pick : (t : Bool) → From (taking.passed_over a b s) → From (taking.entered a b s) → From (cond t (taking.passed_over a b s) (taking.entered a b s))
           pick true x y = x
           pick false x y = y
-      from_step (Push a b k) new = ask_keeps From (exchange.push_checks z a b k s) _ _ s F (λ p. record { log = F.log; lane = lane_other (λ _ _ l. All Carries l) a b k _ s.lanes (λ q. omega (arith, q, row_kinds k (not-false _ p.1.0))) F.lane })
-      from_step (Look a b k) new = ask_keeps From (exchange.look_checks z a b k s) _ _ s F (λ p. record { log = F.log; lane = lane_other (λ _ _ l. All Carries l) b a k _ s.lanes (λ q. omega (arith, q, row_kinds k (not-false _ p.1.0))) F.lane })
+      from_step (Push a b k) new = ask_keeps From (exchange.push_checks z a b k s) _ _ s F (λ p. record { log = F.log; lane = lane_other (λ _ _ l. AllByRecursion Carries l) a b k _ s.lanes (λ q. omega (arith, q, row_kinds k (not-false _ p.1.0))) F.lane })
+      from_step (Look a b k) new = ask_keeps From (exchange.look_checks z a b k s) _ _ s F (λ p. record { log = F.log; lane = lane_other (λ _ _ l. AllByRecursion Carries l) b a k _ s.lanes (λ q. omega (arith, q, row_kinds k (not-false _ p.1.0))) F.lane })
       from_step (Commit a) new = ask_keeps From (committing.commit_checks z a s) _ _ s F (λ _. same_from _ (λ _. refl) (λ _ _. refl))
       from_step (Stop a) new = ask_keeps From (exchange.stop_checks z a s) _ _ s F (λ _. same_from _ (λ _. refl) (λ _ _. refl))
 

@@ -1,6 +1,6 @@
 -- What holds of every run of a rack, whatever its calls, its sizes of logs and lanes, and its machine.
 use Rattle.std.specs.Prelude.{◌≡◌, ℕ, suc, ◌≤◌, true, false, ◌⊎◌, List, [], ◌∷◌, ◌++◌}
-use Rattle.std.specs.List.{AllByRecursion as All}
+use Rattle.std.specs.List.{AllByRecursion}
 use Rattle.marks.specs.Kinds.{Epoch, epoch_of}
 use Rattle.marks.specs.Order.{epoch_below, epoch_up_to, header_below, header_up_to}
 use Rattle.frames.specs.Fields.{Words, EntryFields}
@@ -20,7 +20,7 @@ Begins xs ys = (rest : List EntryFields) × (ys ≡ xs ++ rest)
 -- each header above those before it
 abbrev pub Rising : List EntryFields → Type 0
 Rising [] = Unit {0}
-Rising (x ∷ xs) = All (λ (y : EntryFields). header_below x.header y.header ≡ true) xs × Rising xs
+Rising (x ∷ xs) = AllByRecursion (λ (y : EntryFields). header_below x.header y.header ≡ true) xs × Rising xs
 
 module _ {S : Type 0} (start : S) (apply : ℕ → Words → S → S) (z : Sizes) where
   pub record Agreement : Type 0 where
