@@ -1,7 +1,7 @@
 -- A new rack's state is the opened one, and the laws hold of what follows.
 use Rattle.std.proofs.Common.{◌≡◌, ℕ, zero, suc, ◌-◌, Bool, true, false, cond, ◌||◌, eqb, ◌⊎◌, List, [], ◌∷◌, map, get_or, Ok, Err, Result, sym, refl, ap, ◌∙◌, inl, inr, arith}
 use mathlib.Core.Path.{fun_ext}
-use Rattle.std.specs.List.{AllByRecursion as All}
+use Rattle.std.specs.List.{AllByRecursion}
 use Rattle.std.proofs.lemmas.Bool.{eqb-true}
 use Rattle.refusals.specs.declared.Refusal.{Refusal}
 use Rattle.refusals.specs.declared.Refusal.TheVariants.{WrongSize}
@@ -42,23 +42,23 @@ is_rack Three = inl refl
 is_rack Five = inr (inl refl)
 is_rack Seven = inr (inr refl)
 
-same_at : {A : Type 0} (d : A) (xs : List A) → All (λ x. x ≡ d) xs → (k : ℕ) → get_or xs k d ≡ d
+same_at : {A : Type 0} (d : A) (xs : List A) → AllByRecursion (λ x. x ≡ d) xs → (k : ℕ) → get_or xs k d ≡ d
 same_at d [] all k = refl
 same_at d (x ∷ xs) all zero = all.0
 same_at d (x ∷ xs) all (suc k) = same_at d xs all.1 k
 
-same_map : {M S : Type 0} (state : M → S) (initial : S) (ms : List M) → All (λ m. state m ≡ initial) ms → All (λ x. x ≡ initial) (map state ms)
+same_map : {M S : Type 0} (state : M → S) (initial : S) (ms : List M) → AllByRecursion (λ m. state m ≡ initial) ms → AllByRecursion (λ x. x ≡ initial) (map state ms)
 same_map state initial [] all = tt
 same_map state initial (m ∷ ms) all = (all.0, same_map state initial ms all.1)
 
-by_card_same : {A : Type 0} (n : ℕ) (none : A) (xs : List A) → All (λ x. x ≡ none) xs → by_card n none xs ≡ (λ _. none)
+by_card_same : {A : Type 0} (n : ℕ) (none : A) (xs : List A) → AllByRecursion (λ x. x ≡ none) xs → by_card n none xs ≡ (λ _. none)
 by_card_same n none xs all = fun_ext λ i. go (is_card n i) (same_at none xs all (i - 1))
   where
     go : {x : _} (b : Bool) → x ≡ none → cond b x none ≡ none
     go true e = e
     go false e = refl
 
-pub view_opened : {M S : Type 0} (size : RackSize) (places tally n : ℕ) (cards : List Card) (used : List ℕ) (entries : List Entry) (ms : List M) (state : M → S) (initial : S) (lanes : Lanes) → All (λ c. c ≡ opened_card) cards → All (λ u. u ≡ 0) used → tally ≡ 0 → All (λ m. state m ≡ initial) ms → lanes ≡ empty_lanes → record { cards = by_card (card_count size) opened_card cards; logs = logs_of (card_count size) places used entries; tally = tally; machines = machines_of n state initial ms; lanes = lane_fields lanes } ≡ opened initial
+pub view_opened : {M S : Type 0} (size : RackSize) (places tally n : ℕ) (cards : List Card) (used : List ℕ) (entries : List Entry) (ms : List M) (state : M → S) (initial : S) (lanes : Lanes) → AllByRecursion (λ c. c ≡ opened_card) cards → AllByRecursion (λ u. u ≡ 0) used → tally ≡ 0 → AllByRecursion (λ m. state m ≡ initial) ms → lanes ≡ empty_lanes → record { cards = by_card (card_count size) opened_card cards; logs = logs_of (card_count size) places used entries; tally = tally; machines = machines_of n state initial ms; lanes = lane_fields lanes } ≡ opened initial
 view_opened size places tally n cards used entries ms state initial lanes new unused none started quiet = λ k. record {
   cards = by_card_same (card_count size) opened_card cards new k;
   logs = logs k;

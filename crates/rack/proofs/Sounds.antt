@@ -1,6 +1,6 @@
 -- Cards stay sound: every successor of a sound card is sound.
 use Rattle.std.proofs.Common.{◌≡◌, ℕ, zero, suc, ◌+◌, ◌-◌, ◌<◌, Bool, true, false, cond, not, ◌&&◌, ◌||◌, eqb, ltb, leb, List, [], ◌∷◌, map, get_or, set, is_err, Some, None, Ok, Err, filter, Option, Result, refl, arith}
-use Rattle.std.specs.List.{AllByRecursion as All}
+use Rattle.std.specs.List.{AllByRecursion}
 use Rattle.std.proofs.ByRecursion.{All-set, all_kept_by}
 use Rattle.std.proofs.lemmas.Bool.{and_parts, and_from, cond_both, false≢true, true≢false, or_right}
 use Rattle.std.proofs.lemmas.Bool.Decides.{nat_tests}
@@ -50,7 +50,7 @@ implies false b h = refl
 
 -- rows and tables
 abbrev pub SoundRows : List PeerRow → Type 0
-SoundRows rows = All (λ r. sound_row r ≡ true) rows
+SoundRows rows = AllByRecursion (λ r. sound_row r ≡ true) rows
 
 rows_all : (rows : List PeerRow) → sound_rows rows ≡ true → SoundRows rows
 rows_all [] h = tt
@@ -167,11 +167,11 @@ rows_forgotten zero t all = all
 rows_forgotten (suc k) t all = rows_shipped (forget_up_to k t) (suc k) None (rows_forgotten k t all)
 
 -- the largest of some votes is a vote
-largest_all : {A : Type 0} (up_to : A → A → Bool) (P : A → Type 0) (x : A) (ys : List A) → P x → All P ys → P (largest_of up_to x ys)
+largest_all : {A : Type 0} (up_to : A → A → Bool) (P : A → Type 0) (x : A) (ys : List A) → P x → AllByRecursion P ys → P (largest_of up_to x ys)
 largest_all up_to P x [] p all = p
 largest_all up_to P x (y ∷ ys) p all = largest_all up_to P (cond (up_to x y) y x) ys (cond_both (up_to x y) y x P (λ _. all.0) (λ _. p)) all.1
 
-rows_of_all : {A : Type 0} (P : A → Type 0) (row : ℕ → A) (n : ℕ) → ((j : ℕ) → P (row j)) → All P (rows_of row n)
+rows_of_all : {A : Type 0} (P : A → Type 0) (row : ℕ → A) (n : ℕ) → ((j : ℕ) → P (row j)) → AllByRecursion P (rows_of row n)
 rows_of_all P row zero each = tt
 rows_of_all P row (suc n) each = (each 1, rows_of_all P (λ (j : ℕ). row (suc j)) n (λ j. each (suc j)))
 
@@ -407,7 +407,7 @@ sound_stored c j f h is row =
 
 -- entries
 abbrev pub AreEntries : List EntryFields → Type 0
-AreEntries es = All (λ e. is_entry e ≡ true) es
+AreEntries es = AllByRecursion (λ e. is_entry e ≡ true) es
 
 pub entries_all : (es : List Entry) → AreEntries (map entry_fields es)
 entries_all [] = tt

@@ -1,6 +1,6 @@
 // open: every card electing with all marks null, logs empty, machines at their start.
 ghost use Rattle.std.specs.Prelude.{◌≡◌, IfOk};
-ghost use Rattle.std.specs.List.{AllByRecursion as All};
+ghost use Rattle.std.specs.List.{AllByRecursion};
 ghost use Rattle.rack.specs.Opening.{Opening, Promises, StandsAlone};
 ghost use Rattle.rack.specs.View.{sizes};
 
@@ -16,7 +16,7 @@ use protocol::Card;
 pub const MOST_PLACES: usize = 1024;
 
 fn restart<M: Machine + Drop>(machines: &mut [M])
-    ensures { All (λ m. M.Machine.state m ≡ M.Machine.initial) machines.new }
+    ensures { AllByRecursion (λ m. M.Machine.state m ≡ M.Machine.initial) machines.new }
 {
     for machine in machines.iter_mut() {
         *machine = M::start();

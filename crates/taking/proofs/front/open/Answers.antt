@@ -22,14 +22,14 @@ entry_in-requires g c = message_carries c.in_ok-frame.frame c.in-Message.is
 pub open_diff-requires : goal.open_diff-requires
 open_diff-requires g c = head_carries c.in_ok-frame.frame c.in-DiffHead.is
 
-pub returns-in_err-open_diff : goal.returns-in_err-open_diff
-returns-in_err-open_diff g c =
+pub returns-in_err-open_diff-in-DiffHead : goal.returns-in_err-open_diff-in-DiffHead
+returns-in_err-open_diff-in-DiffHead g c =
     let s = c.args.backplane.now in
     let b = g.B.Backplane in
     let here = front_seen (b.count s) (b.lanes s) c.args.from c.args.to c.in_ok-frame.frame c.in_ok-frame.ensures in
-    let p = err_from_is_err_and c.from_residual-in_err-open_diff.result c.from_residual-in_err-open_diff.ensures.1 in
-    let broken = broken_diff _ c.args.from _ c.in_ok-frame.frame _ here c.if-frame-from.false c.args.to c.in-DiffHead.is c.in_err-open_diff.ensures.1 in
-    subst (λ r. Opens (is_lane (b.count s) c.args.from c.args.to 0) c.args.from c.args.to (lane_fields (b.lanes s) c.args.from c.args.to 0) r) (sym p.1) (broken ∙ sym (ap (λ f. Some (card_refusal f)) (p.2 ∙ c.in_err-open_diff.ensures.0)))
+    let p = err_from_is_err_and c.from_residual-in_err-open_diff-in-DiffHead.result c.from_residual-in_err-open_diff-in-DiffHead.ensures.1 in
+    let broken = broken_diff _ c.args.from _ c.in_ok-frame.frame _ here c.if-frame-from.false c.args.to c.in-DiffHead.is c.in_err-open_diff-in-DiffHead.ensures.1 in
+    subst (λ r. Opens (is_lane (b.count s) c.args.from c.args.to 0) c.args.from c.args.to (lane_fields (b.lanes s) c.args.from c.args.to 0) r) (sym p.1) (broken ∙ sym (ap (λ f. Some (card_refusal f)) (p.2 ∙ c.in_err-open_diff-in-DiffHead.ensures.0)))
 
 pub returns-then-frame-from : goal.returns-then-frame-from
 returns-then-frame-from g c =
@@ -43,12 +43,12 @@ returns-in-Message g c =
     let here = front_seen (g.B.Backplane.count s) (g.B.Backplane.lanes s) c.args.from c.args.to c.in_ok-frame.frame c.in_ok-frame.ensures in
     message_front _ c.args.from _ c.in_ok-frame.frame _ here c.if-frame-from.false c.in-Message.is c.entry_in.result c.entry_in.ensures
 
-pub returns-in_ok-open_diff : goal.returns-in_ok-open_diff
-returns-in_ok-open_diff g c =
+pub returns-in_ok-open_diff-in-DiffHead : goal.returns-in_ok-open_diff-in-DiffHead
+returns-in_ok-open_diff-in-DiffHead g c =
     let s = c.args.backplane.now in
     let here = front_seen (g.B.Backplane.count s) (g.B.Backplane.lanes s) c.args.from c.args.to c.in_ok-frame.frame c.in_ok-frame.ensures in
-    let found = c.in_ok-open_diff.ensures in
-    diff_front _ c.args.from _ c.in_ok-frame.frame _ here c.if-frame-from.false c.args.to c.in-DiffHead.is c.in_ok-open_diff.field-0 found.0 found.1
+    let found = c.in_ok-open_diff-in-DiffHead.ensures in
+    diff_front _ c.args.from _ c.in_ok-frame.frame _ here c.if-frame-from.false c.args.to c.in-DiffHead.is c.in_ok-open_diff-in-DiffHead.field-0 found.0 found.1
 
 pub returns-in_default-2 : goal.returns-in_default-2
 returns-in_default-2 g c =

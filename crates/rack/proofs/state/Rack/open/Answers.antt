@@ -1,5 +1,5 @@
 use Rattle.std.proofs.Common.{◌≡◌, ℕ, ◌*◌, ◌≤◌, Bool, true, List, [], ◌∷◌, length, MatchBool, sym, refl, ap, ◌∙◌, subst, arith}
-use Rattle.std.specs.List.{AllByRecursion as All}
+use Rattle.std.specs.List.{AllByRecursion}
 use Rattle.backplane.specs.Lanes.{empty_lanes}
 use Rattle.protocol.specs.Rack.{opened_card}
 use Rattle.protocol.specs.declared.card.Card.{Card}
@@ -17,8 +17,8 @@ returns g c =
     let quiet : L ≡ empty_lanes = subst (λ b. MatchBool b (L ≡ empty_lanes) (L ≡ empty_lanes → ⊥)) c.if-not-is_quiet.false c.is_quiet.ensures in
     let cards : List Card = x ∷ x ∷ x ∷ x ∷ x ∷ x ∷ x ∷ [] in
     let used : List ℕ = 0 ∷ 0 ∷ 0 ∷ 0 ∷ 0 ∷ 0 ∷ 0 ∷ [] in
-    let new : All (λ c. c ≡ opened_card) cards = (card, (card, (card, (card, (card, (card, (card, tt))))))) in
-    let unused : All (λ u. u ≡ 0) used = (refl, (refl, (refl, (refl, (refl, (refl, (refl, tt))))))) in
+    let new : AllByRecursion (λ c. c ≡ opened_card) cards = (card, (card, (card, (card, (card, (card, (card, tt))))))) in
+    let unused : AllByRecursion (λ u. u ≡ 0) used = (refl, (refl, (refl, (refl, (refl, (refl, (refl, tt))))))) in
     record {
       opened = (
         record { size = size.1; low = c.if-places-lt1.false; high = c.if-places-gt-MOST_PLACES.false; long = c.if-entries-total.false; many = c.if-machines-cards.false; wide = sym c.cards.ensures ∙ c.if-cards.false; quiet = quiet },
