@@ -1,13 +1,12 @@
 -- From one card and its log to the whole rack.
-use Rattle.std.proofs.Common.{◌≡◌, ℕ, zero, suc, ◌+◌, ◌-◌, ◌*◌, ◌≤◌, Bool, true, false, cond, not, ◌&&◌, ◌||◌, eqb, List, [], ◌∷◌, map, length, get_or, take, drop, set, Ok, Err, sym, refl, ap, ◌∙◌, arith}
+use Rattle.std.proofs.Common.{◌≡◌, ℕ, zero, suc, ◌+◌, ◌-◌, ◌*◌, ◌≤◌, Bool, true, false, cond, List, [], ◌∷◌, map, length, get_or, take, drop, set, Err, refl, ap, ◌∙◌, arith}
 use Rattle.std.proofs.lemmas.Bool.{cond-true, eq-eqb}
 use Rattle.std.proofs.lemmas.List.{length-map}
 use Rattle.refusals.specs.declared.Refusal.TheVariants.{WrongSize}
 use Rattle.backplane.specs.Lanes.{Lanes, is_card}
 use Rattle.frames.specs.declared.entry.Entry.{Entry}
-use Rattle.frames.specs.Fields.{EntryFields}
 use Rattle.logs.specs.Log.{log_of}
-use Rattle.protocol.specs.Rack.{State, Reply, at, with_card, with_log, with_tally, no_card, opened_card}
+use Rattle.protocol.specs.Rack.{State, Reply, at, with_card, with_log, with_tally, opened_card}
 use Rattle.protocol.specs.declared.card.Card.{Card}
 use Rattle.cards.specs.LaneViews.{lane_fields}
 use Rattle.cards.specs.Sizes.{card_count}

@@ -1,15 +1,14 @@
 -- commit, from its part on one card, its log and its machine.
-use Rattle.std.proofs.Common.{◌≡◌, ℕ, ◌+◌, ◌-◌, ◌*◌, ◌<◌, ◌≤◌, Bool, true, false, cond, not, ◌&&◌, eqb, List, [], ◌∷◌, ◌++◌, map, length, get_or, take, set, Ok, Err, sym, refl, ap, ◌∙◌, subst, arith}
+use Rattle.std.proofs.Common.{◌≡◌, ℕ, ◌-◌, ◌≤◌, Bool, true, cond, not, List, [], ◌∷◌, length, get_or, take, Ok, Err, sym, ap, ◌∙◌, subst, arith}
 use Rattle.std.proofs.lemmas.Bool.{cond-true}
-use Rattle.std.proofs.lemmas.List.{get_or-map, append-nil}
+use Rattle.std.proofs.lemmas.List.{get_or-map}
 use Rattle.refusals.specs.declared.Refusal.{Refusal}
 use Rattle.refusals.specs.declared.Refusal.TheVariants.{NoSuchCard, Stopped, WrongRole, NothingDue}
 use Rattle.backplane.specs.Lanes.{Lanes, is_card}
 use Rattle.frames.specs.Fields.{Words, EntryFields}
-use Rattle.frames.specs.Views.{entry_fields}
 use Rattle.frames.specs.declared.entry.Entry.{Entry}
 use Rattle.logs.specs.Log.{log_of}
-use Rattle.protocol.specs.Rack.{State, Reply, ask, at, with_card, with_machine, no_card, is_electing, opened_card}
+use Rattle.protocol.specs.Rack.{State, Reply, ask, at, with_card, with_machine, is_electing, opened_card}
 use Rattle.protocol.specs.Committing.{supported, due_entries, committed_to, applied, committed, commit}
 use Rattle.protocol.specs.declared.answer.Answer.{Answer}
 use Rattle.protocol.specs.declared.answer.Answer.TheVariants.{Count}

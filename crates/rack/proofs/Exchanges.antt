@@ -1,18 +1,17 @@
 -- push and look, from their parts on one card and the lanes.
-use Rattle.std.proofs.Common.{◌≡◌, ℕ, ◌-◌, ◌≤◌, Bool, true, false, cond, not, ◌&&◌, ◌||◌, eqb, leb, List, [], ◌∷◌, ◌++◌, length, get_or, drop, Ok, Err, sym, refl, ap, ◌∙◌, subst}
+use Rattle.std.proofs.Common.{◌≡◌, ℕ, ◌-◌, Bool, true, false, cond, not, ◌&&◌, eqb, leb, List, [], ◌∷◌, ◌++◌, length, drop, Err, sym, ap, ◌∙◌}
 use Rattle.std.proofs.lemmas.Bool.{eqb-true, not-false}
 use Rattle.refusals.specs.declared.Refusal.{Refusal}
 use Rattle.refusals.specs.declared.Refusal.TheVariants.{NoSuchCard, OutOfRange, Stopped, NothingDue, Malformed, LaneFull}
 use Rattle.marks.specs.Kinds.{epoch_of}
 use Rattle.marks.specs.Order.{epoch_same}
-use Rattle.backplane.specs.Lanes.{Lanes, LanesOf, is_card, is_lane}
+use Rattle.backplane.specs.Lanes.{Lanes, LanesOf, is_lane}
 use Rattle.frames.specs.declared.entry.Entry.{Entry}
 use Rattle.frames.specs.Fields.{FrameFields, is_frame}
-use Rattle.protocol.specs.Rack.{State, Reply, ask, at_lane, with_card, no_peer, is_row_kind, opened_card}
+use Rattle.protocol.specs.Rack.{State, Reply, ask, at_lane, with_card, is_row_kind}
 use Rattle.protocol.specs.Booking.{with_peers}
 use Rattle.protocol.specs.Taking.{front}
 use Rattle.protocol.specs.Exchange.{own_row, stored, push, pushed, look, looked}
-use Rattle.protocol.specs.declared.answer.Answer.{Answer}
 use Rattle.protocol.specs.declared.answer.Answer.TheVariants.{Done}
 use Rattle.protocol.specs.declared.card.Card.{Card}
 use Rattle.protocol.proofs.Asked.{Passed, ask_keeps, ask_omit, ask_lifts}

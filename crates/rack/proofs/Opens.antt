@@ -8,12 +8,11 @@ use Rattle.refusals.specs.declared.Refusal.TheVariants.{WrongSize}
 use Rattle.backplane.specs.Lanes.{Lanes, is_card, empty_lanes}
 use Rattle.frames.specs.declared.entry.Entry.{Entry}
 use Rattle.frames.specs.Fields.{Words, EntryFields}
-use Rattle.machines.specs.Lone.{carried, alone}
-use Rattle.protocol.specs.Rack.{Sizes, State, opened_card, opened}
+use Rattle.machines.specs.Lone.{carried}
+use Rattle.protocol.specs.Rack.{Sizes, opened_card, opened}
 use Rattle.protocol.specs.Committing.{applied}
 use Rattle.protocol.specs.declared.card.Card.{Card}
-use Rattle.laws.specs.Laws.{IsRack}
-use Rattle.laws.specs.Runs.{state_at, delivered_at}
+use Rattle.laws.specs.Runs.{delivered_at}
 use Rattle.laws.proofs.Main.{agreement, integrity, no_lost_delivery, elections, counts, card_rules}
 use Rattle.logs.specs.Log.{log_of}
 use Rattle.cards.specs.LaneViews.{lane_fields}
@@ -21,8 +20,7 @@ use Rattle.cards.specs.Sizes.{card_count, size_of}
 use Rattle.cards.specs.declared.size.RackSize.{RackSize}
 use Rattle.cards.specs.declared.size.RackSize.TheVariants.{Three, Five, Seven}
 use Rattle.rack.specs.Opening.{Promises, StandsAlone, item_of}
-use Rattle.rack.specs.View.{by_card, part_of, card_log, logs_of, machines_of, view, sizes}
-use Rattle.rack.specs.declared.state.Rack.{Rack}
+use Rattle.rack.specs.View.{by_card, part_of, card_log, logs_of, machines_of}
 
 -- the number that made a size
 pub size_of_lem : (n : ℕ) (size : RackSize) → Ok size ≡ size_of n → (card_count size ≡ n) × ((eqb n 3 || (eqb n 5 || eqb n 7)) ≡ true)

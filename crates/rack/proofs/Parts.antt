@@ -1,17 +1,14 @@
 -- A card's part of the entries: where it lies, and what a write to it leaves.
-use Rattle.std.proofs.Common.{◌≡◌, ℕ, zero, suc, ◌+◌, ◌-◌, ◌*◌, ◌<◌, ◌≤◌, Bool, true, false, cond, eqb, leb, ◌≢◌, ◌⊎◌, List, [], ◌∷◌, ◌++◌, length, get_or, take, drop, set, sym, refl, ap, ◌∙◌, subst, inl, inr, ⊎_elim, mul-le-mul_right, suc-mul, mul-le-mul, arith, length-drop, length-take}
+use Rattle.std.proofs.Common.{◌≡◌, ℕ, zero, suc, ◌+◌, ◌-◌, ◌*◌, ◌<◌, ◌≤◌, Bool, true, false, cond, eqb, leb, ◌≢◌, List, [], ◌∷◌, ◌++◌, length, get_or, take, drop, set, sym, refl, ap, ◌∙◌, subst, ⊎_elim, mul-le-mul_right, suc-mul, arith, length-drop, length-take}
 use mathlib.Core.Path.{fun_ext}
 use borrow.Rule.Slice.PartMut.{put_mid}
-use Rattle.std.specs.List.{between}
 use Rattle.std.proofs.lemmas.List.{get_or-set_same, get_or-set_other, take-append-drop}
 use Rattle.std.proofs.lemmas.Slice.{between_is, take-put_mid_below, drop-put_mid, between-put_mid}
 use Rattle.std.proofs.lemmas.Bool.{eqb-true, eqb-false, and_parts, leb-true, cases_lt}
 use Rattle.backplane.specs.Lanes.{is_card}
 use Rattle.frames.specs.declared.entry.Entry.{Entry}
-use Rattle.frames.specs.Fields.{EntryFields}
 use Rattle.logs.specs.Log.{log_of}
 use Rattle.protocol.specs.Rack.{at}
-use Rattle.cards.specs.Sizes.{card_count}
 use Rattle.rack.specs.View.{part_of, card_log, logs_of}
 
 pub card_low : (n i : ℕ) → is_card n i ≡ true → 1 ≤ i

@@ -1,12 +1,12 @@
 -- A call that names a peer: the card, its peer and the lanes between them.
-use Rattle.std.proofs.Common.{◌≡◌, ℕ, ◌-◌, ◌<◌, ◌≤◌, Bool, true, false, cond, not, ◌&&◌, ◌||◌, eqb, leb, List, [], ◌∷◌, map, length, get_or, Ok, Err, Result, sym, refl, ap, ◌∙◌, subst, arith}
-use Rattle.std.proofs.lemmas.Bool.{and_from, and_parts, eqb-true, eqb-false, eq-eqb, ne_eqb, leb-true, not-false}
+use Rattle.std.proofs.Common.{◌≡◌, ℕ, ◌-◌, Bool, true, false, cond, not, ◌||◌, eqb, leb, List, [], ◌∷◌, map, length, get_or, Ok, Err, Result, sym, refl, ap, arith}
+use Rattle.std.proofs.lemmas.Bool.{and_from, and_parts, eqb-false, ne_eqb, leb-true}
 use Rattle.std.proofs.lemmas.Bool.Decides.{nat_tests}
 use Rattle.backplane.specs.Lanes.{is_card, is_lane_number, is_lane}
 use Rattle.frames.specs.declared.frame.Frame.{Frame}
-use Rattle.frames.specs.Fields.{FrameFields, is_frame}
+use Rattle.frames.specs.Fields.{is_frame}
 use Rattle.frames.specs.Views.{frame_fields}
-use Rattle.protocol.specs.Rack.{Sizes, State, at, with_card, no_card, no_peer, is_row_kind, opened_card}
+use Rattle.protocol.specs.Rack.{no_peer, is_row_kind, opened_card}
 use Rattle.protocol.specs.Taking.{front}
 use Rattle.protocol.specs.declared.card.Card.{Card}
 use Rattle.cards.specs.Sizes.{card_count}

@@ -1,7 +1,7 @@
 -- A card's delivered list and its log, read from the entries.
 use Rattle.std.proofs.Common.{◌≡◌, ℕ, ◌+◌, ◌-◌, ◌*◌, ◌≤◌, Bool, true, false, cond, leb, List, map, length, get_or, take, drop, Some, None, Option, sym, refl, ap, ◌∙◌, subst, arith}
 use Rattle.std.proofs.lemmas.List.{take-take}
-use Rattle.std.proofs.lemmas.Bool.{cond-true, cond-false, leb-true}
+use Rattle.std.proofs.lemmas.Bool.{cond-true, cond-false}
 use Rattle.marks.specs.Kinds.{Header}
 use Rattle.backplane.specs.Lanes.{is_card, empty_lanes}
 use Rattle.frames.specs.declared.entry.Entry.{Entry}
@@ -14,7 +14,7 @@ use Rattle.protocol.specs.declared.card.Card.{Card}
 use Rattle.logs.specs.Log.{log_of, places_up_to, overlaid, copied_into, copied_count}
 use Rattle.logs.proofs.Cuts.{places_log, places_count, overlaid_log, overlaid_rest}
 use Rattle.cards.specs.Sizes.{card_count}
-use Rattle.rack.specs.View.{part_of, card_log, logs_of, view}
+use Rattle.rack.specs.View.{part_of, view}
 use Rattle.rack.specs.declared.state.Rack.{Rack}
 use Rattle.rack.proofs.Calls.{own_card, own_log}
 

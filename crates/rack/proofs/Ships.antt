@@ -1,5 +1,5 @@
 -- ship, from its part on one card, its log and the lanes.
-use Rattle.std.proofs.Common.{◌≡◌, ℕ, ◌+◌, ◌-◌, ◌*◌, ◌≤◌, Bool, true, false, cond, not, ◌&&◌, ◌||◌, eqb, ltb, leb, List, [], ◌∷◌, ◌++◌, length, get_or, Some, None, Ok, Err, filter, Option, sym, refl, ap, ◌∙◌, subst, arith}
+use Rattle.std.proofs.Common.{◌≡◌, ℕ, ◌+◌, ◌-◌, ◌≤◌, Bool, true, false, cond, not, eqb, ltb, List, [], ◌∷◌, ◌++◌, length, get_or, Some, None, Ok, Err, Option, sym, refl, ap, ◌∙◌, arith}
 use Rattle.std.proofs.lemmas.Bool.{not-false}
 use Rattle.std.proofs.lemmas.List.Filters.{length-filter_both}
 use Rattle.refusals.specs.declared.Refusal.{Refusal}
@@ -9,12 +9,12 @@ use Rattle.backplane.specs.Lanes.{Lanes, LanesOf, is_lane}
 use Rattle.frames.specs.declared.entry.Entry.{Entry}
 use Rattle.frames.specs.Fields.{EntryFields, FrameFields}
 use Rattle.protocol.specs.Rows.{row_of, mark_shipped}
-use Rattle.protocol.specs.Rack.{State, Reply, ask, at_lane, is_leader, no_peer, opened_card}
-use Rattle.protocol.specs.Booking.{inside, diff_entries, shipment, shipment_to, shipped_after, shipped, ship, with_peers}
+use Rattle.protocol.specs.Rack.{State, Reply, ask, is_leader}
+use Rattle.protocol.specs.Booking.{inside, diff_entries, shipment_to, shipped_after, shipped, ship, with_peers}
 use Rattle.protocol.specs.declared.answer.Answer.{Answer}
 use Rattle.protocol.specs.declared.answer.Answer.TheVariants.{Count}
 use Rattle.protocol.specs.declared.card.Card.{Card}
-use Rattle.protocol.proofs.Asked.{Passed, ask_done, ask_refused, ask_omit, ask_lifts}
+use Rattle.protocol.proofs.Asked.{ask_done, ask_refused, ask_omit, ask_lifts}
 use Rattle.logs.specs.Log.{log_of}
 use Rattle.logs.proofs.Logs.{log_length}
 use Rattle.cards.specs.LaneViews.{lane_fields}

@@ -1,14 +1,14 @@
 -- submit, from its part on one card and its log.
-use Rattle.std.proofs.Common.{◌≡◌, ℕ, ◌+◌, ◌-◌, ◌*◌, ◌≤◌, Bool, true, false, cond, not, ◌&&◌, ◌||◌, eqb, ltb, leb, List, [], ◌∷◌, ◌++◌, length, get_or, Ok, Err, sym, refl, ap, ◌∙◌, subst, arith}
-use Rattle.std.proofs.lemmas.Bool.{cond-true, cond-false, and_from, le-leb, ltb-false, not-false, or_parts}
+use Rattle.std.proofs.Common.{◌≡◌, ℕ, ◌+◌, ◌-◌, ◌*◌, Bool, true, false, cond, not, ◌||◌, ltb, leb, List, [], ◌∷◌, ◌++◌, length, get_or, Ok, Err, sym, refl, ap, ◌∙◌, arith}
+use Rattle.std.proofs.lemmas.Bool.{and_from, le-leb, ltb-false, not-false}
 use Rattle.refusals.specs.declared.Refusal.{Refusal}
 use Rattle.refusals.specs.declared.Refusal.TheVariants.{NoSuchCard, OutOfRange, Stopped, WrongRole, Malformed, LogFull, UsedUp}
 use Rattle.backplane.specs.Lanes.{Lanes, is_card}
 use Rattle.frames.specs.Fields.{Words, EntryFields, is_entry_header}
 use Rattle.frames.specs.declared.entry.Entry.{Entry}
 use Rattle.logs.specs.Log.{log_of}
-use Rattle.protocol.specs.Rack.{State, Reply, ask, with_card, with_log, with_tally, no_card, is_leader, opened_card}
-use Rattle.protocol.specs.Booking.{place_after, booked, accepted_up_to, submit_checks, submitted, submit}
+use Rattle.protocol.specs.Rack.{State, Reply, ask, with_card, with_log, with_tally, is_leader, opened_card}
+use Rattle.protocol.specs.Booking.{place_after, booked, accepted_up_to, submitted, submit}
 use Rattle.protocol.specs.declared.answer.Answer.{Answer}
 use Rattle.protocol.specs.declared.answer.Answer.TheVariants.{Placed}
 use Rattle.protocol.specs.declared.card.Card.{Card}

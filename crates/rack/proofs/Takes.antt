@@ -1,12 +1,12 @@
 -- take, from its part on one card, its log and the lanes.
-use Rattle.std.proofs.Common.{◌≡◌, ℕ, ◌-◌, ◌*◌, ◌≤◌, Bool, true, false, cond, not, ◌&&◌, ◌||◌, eqb, ltb, List, [], ◌∷◌, ◌++◌, length, get_or, Ok, Err, sym, refl, ap, ◌∙◌, subst}
+use Rattle.std.proofs.Common.{◌≡◌, ℕ, ◌-◌, ◌*◌, Bool, true, false, cond, not, ◌&&◌, ◌||◌, eqb, ltb, List, [], ◌∷◌, length, get_or, Ok, Err, sym, refl, ap, ◌∙◌}
 use Rattle.std.proofs.lemmas.Bool.{not-false, and_parts}
 use Rattle.refusals.specs.declared.Refusal.{Refusal}
 use Rattle.refusals.specs.declared.Refusal.TheVariants.{NoSuchCard, Stopped, NothingDue, Malformed, OutOfTurn, LogFull}
-use Rattle.backplane.specs.Lanes.{Lanes, LanesOf, is_lane}
+use Rattle.backplane.specs.Lanes.{Lanes, is_lane}
 use Rattle.frames.specs.declared.entry.Entry.{Entry}
-use Rattle.frames.specs.Fields.{EntryFields, FrameFields}
-use Rattle.protocol.specs.Rack.{State, Reply, ask, with_card, with_log, no_peer, opened_card}
+use Rattle.frames.specs.Fields.{FrameFields}
+use Rattle.protocol.specs.Rack.{State, Reply, ask, with_card, with_log}
 use Rattle.protocol.specs.Taking.{front, is_message, is_diff, whole_diff, formed, too_low, in_turn, log_after, taken_by, take_answer, passed_over, entered, taken, take_call}
 use Rattle.protocol.specs.declared.answer.Answer.{Answer}
 use Rattle.protocol.specs.declared.card.Card.{Card}
@@ -14,13 +14,12 @@ use Rattle.protocol.proofs.Asked.{ask_done, ask_refused, ask_omit, ask_lifts}
 use Rattle.logs.specs.Log.{log_of}
 use Rattle.cards.specs.LaneViews.{lane_fields}
 use Rattle.cards.specs.Sizes.{card_count}
-use Rattle.taking.specs.Parts.{Held, front_gone, take_after, part_checks, take_part}
+use Rattle.taking.specs.Parts.{Held, front_gone, take_after, take_part}
 use Rattle.rack.specs.Sound.{sound_card}
 use Rattle.rack.specs.View.{part_of, view, sizes}
 use Rattle.rack.specs.Written.{Changed}
 use Rattle.rack.specs.declared.state.Rack.{Rack}
 use Rattle.rack.proofs.Sounds.{sound_taken}
-use Rattle.rack.proofs.Views.{at_same}
 use Rattle.rack.proofs.Parts.{part_long, Replaced}
 use Rattle.rack.proofs.Peers.{Pair, lane_is, apart_back, front_frame}
 use Rattle.rack.proofs.Calls.{own_card, own_log, put_back, view_changed}

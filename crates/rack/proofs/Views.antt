@@ -1,5 +1,5 @@
 -- What a rack means after one of its cards was written back.
-use Rattle.std.proofs.Common.{◌≡◌, ℕ, zero, suc, ◌-◌, ◌<◌, ◌≤◌, Bool, true, false, cond, not, ◌&&◌, ◌||◌, eqb, leb, ◌≢◌, List, [], ◌∷◌, map, length, get_or, set, Ok, Err, Result, sym, refl, ap, ◌∙◌, arith}
+use Rattle.std.proofs.Common.{◌≡◌, ℕ, ◌-◌, ◌≤◌, Bool, true, false, cond, not, eqb, leb, ◌≢◌, List, ◌∷◌, length, get_or, set, Ok, Err, Result, sym, refl, ap, ◌∙◌, arith}
 use mathlib.Core.Path.{fun_ext}
 use Rattle.std.proofs.lemmas.List.{get_or-set_same, get_or-set_other, get_or_default}
 use Rattle.std.proofs.lemmas.Bool.{eqb-true, eqb-false, and_parts, and_from, leb-true, le-leb}
@@ -15,7 +15,7 @@ use Rattle.cards.specs.Sizes.{card_count}
 use Rattle.cards.specs.declared.size.RackSize.{RackSize}
 use Rattle.cards.specs.declared.size.RackSize.TheVariants.{Three, Five, Seven}
 use Rattle.cards.specs.LaneViews.{lane_fields}
-use Rattle.rack.specs.View.{by_card, part_of, card_log, logs_of, machines_of, view}
+use Rattle.rack.specs.View.{by_card, logs_of, view}
 use Rattle.rack.specs.declared.state.Rack.{Rack}
 use Rattle.rack.specs.Written.{Written}
 use Rattle.rack.specs.declared.fault.RackFault.{RackFault}

@@ -1,12 +1,12 @@
 -- What open asks for, and what it hands over.
-use Rattle.std.specs.Prelude.{◌≡◌, ℕ, ◌*◌, ◌≤◌, Bool, true, ◌||◌, List, map, length, Ok, Err, Result, ◌==◌}
+use Rattle.std.specs.Prelude.{◌≡◌, ℕ, ◌*◌, ◌≤◌, true, ◌||◌, List, map, length, Ok, Err, Result, ◌==◌}
 use Rattle.refusals.specs.declared.Refusal.TheVariants.{WrongSize}
 use Rattle.backplane.specs.Lanes.{Lanes, empty_lanes}
 use Rattle.frames.specs.declared.entry.Entry.{Entry}
 use Rattle.frames.specs.Fields.{Words, EntryFields}
 use Rattle.machines.specs.Lone.{alone}
 use Rattle.machines.specs.declared.runs.Item.{Item}
-use Rattle.protocol.specs.Rack.{Sizes, State, opened}
+use Rattle.protocol.specs.Rack.{Sizes, opened}
 use Rattle.protocol.specs.declared.call.Call.{Call}
 use Rattle.laws.specs.Laws.{Agreement, Integrity, NoLostDelivery, Elections, Counts, CardRules}
 use Rattle.laws.specs.Runs.{state_at, delivered_at}

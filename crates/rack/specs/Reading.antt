@@ -1,5 +1,5 @@
 -- What is read off a rack: a card's log, and its delivered list.
-use Rattle.std.specs.Prelude.{◌≡◌, ℕ, ◌≤◌, Bool, true, false, cond, ◌&&◌, List, map, length, take, drop, Ok, Err, Result, nat_le}
+use Rattle.std.specs.Prelude.{◌≡◌, ℕ, Bool, true, false, cond, ◌&&◌, List, map, length, take, drop, Ok, Err, Result, nat_le}
 use Rattle.std.specs.Borrow.{Bor}
 use Rattle.refusals.specs.declared.Refusal.TheVariants.{NoSuchCard, WrongSize}
 use Rattle.frames.specs.declared.entry.Entry.{Entry}

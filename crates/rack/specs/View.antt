@@ -1,5 +1,5 @@
 -- What a rack and the memory that is lent to it mean.
-use Rattle.std.specs.Prelude.{ℕ, ◌-◌, ◌*◌, Bool, true, cond, ◌&&◌, ◌||◌, List, [], map, length, take, drop, Err, ◌==◌, slice_index, slice_index_or}
+use Rattle.std.specs.Prelude.{ℕ, ◌-◌, ◌*◌, Bool, cond, ◌||◌, List, [], map, length, take, drop, Err, ◌==◌, slice_index, slice_index_or}
 use Rattle.refusals.specs.declared.Refusal.TheVariants.{WrongSize}
 use Rattle.backplane.specs.Lanes.{Lanes, is_card}
 use Rattle.frames.specs.declared.entry.Entry.{Entry}

@@ -4,10 +4,10 @@
 mod access;
 pub mod booking;
 pub mod carrying;
-pub mod exchange;
 pub mod fault;
 pub mod opening;
 pub mod reading;
+pub mod rows;
 pub mod state;
 pub mod voting;
 

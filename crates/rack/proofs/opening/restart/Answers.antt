@@ -1,4 +1,4 @@
-use Rattle.std.proofs.Common.{◌≡◌, take, set, sym, subst, arith}
+use Rattle.std.proofs.Common.{◌≡◌, take, sym, subst, arith}
 use Rattle.std.specs.List.{AllByRecursion}
 use Rattle.std.proofs.ByRecursion.{All-push}
 use Rattle.std.proofs.lemmas.List.{take_more_set, take_all}

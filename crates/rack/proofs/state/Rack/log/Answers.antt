@@ -1,4 +1,4 @@
-use Rattle.std.proofs.Common.{◌≡◌, not, sym, refl, ap, ◌∙◌}
+use Rattle.std.proofs.Common.{not, refl, ap}
 use Rattle.rack.proofs.Views.{found}
 use Rattle.rack.proofs.Calls.{entries_fit_lem}
 use Rattle.rack.proofs.Readings.{seen_log}

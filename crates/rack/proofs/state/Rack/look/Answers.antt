@@ -1,13 +1,12 @@
-use Rattle.std.proofs.Common.{◌≡◌, ℕ, ◌-◌, true, false, leb, [], get_or, Ok, Err, sym, refl, ap, ◌∙◌, length-set}
+use Rattle.std.proofs.Common.{◌≡◌, ◌-◌, true, false, leb, [], get_or, Ok, Err, sym, refl, ◌∙◌, length-set}
 use Rattle.std.proofs.lemmas.Bool.{and_from, le-leb, eq-eqb}
-use Rattle.protocol.specs.Rack.{no_peer, is_row_kind, with_card}
+use Rattle.protocol.specs.Rack.{no_peer, is_row_kind}
 use Rattle.protocol.specs.declared.card.Card.{Card}
 use Rattle.protocol.specs.declared.card.Role.TheVariants.{Electing}
 use Rattle.protocol.specs.declared.answer.Answer.TheVariants.{Done}
 use Rattle.cards.specs.Faults.{replied, card_refusal}
 use Rattle.cards.specs.Sizes.{card_count}
-use Rattle.rack.specs.View.{view, sizes}
-use Rattle.rack.specs.declared.state.Rack.{Rack}
+use Rattle.rack.specs.View.{sizes}
 use Rattle.rack.proofs.Refused.{told_card}
 use Rattle.rack.proofs.Calls.{lent_fits}
 use Rattle.rack.proofs.Peers.{Pair, paired}
@@ -20,21 +19,28 @@ use Rattle.rack.proofs.state.Rack.look.Goals as goal
 abbrev zeroed : Card
 zeroed = record { role = Electing; stopped = false; current = (0, 0); newest = (0, 0); accepted = (0, 0, 0); committed = (0, 0, 0); next = (0, 0, 0); vote = ((0, 0), (0, 0, 0)); peers = record { rows = [] } }
 
-pub invariant-of-self : goal.invariant-of-self
-invariant-of-self g c =
+pub invariant_of-self : goal.invariant_of-self
+invariant_of-self g c =
     let b = g.B.Backplane in
     let r = c.args.self.now in
     let i = c.args.card in
     let j = c.args.peer in
     let kind = c.args.kind in
     let at = c.args.backplane.now in
-    let found = paired r i j c.in_ok--own.-own c.in_ok--own.ensures in
+    let found = paired r i j c.in_ok-_own._own c.in_ok-_own.ensures in
     let own = get_or r.cards (i - 1) zeroed in
     let pair : Pair r i j own = record { card = found.card; peer = found.peer; apart = found.apart; here = found.here; copied = card_read r i zeroed found.card } in
     let wide : b.count at ≡ card_count r.size = sym c.cards.ensures ∙ c.if-cards.false ∙ c.cards-2.ensures in
     let is : is_row_kind kind ≡ true = and_from (leb 4 kind) (leb kind 6) (le-leb 4 kind c.if-kind-lt4.false) (le-leb kind 6 c.if-kind-gt6.false) in
     let sound = look_sound r i j kind (b.room at) [] (λ _. tt {0}) (b.lanes at) own pair is (b.count at) wide (replied (λ _. Done) c.look.result) c.look.new.card (b.lanes c.look.new.backplane) c.look.ensures.part in
-    (r.full, (r.few, (length-set r.cards (i - 1) c.look.new.card ∙ r.seven, (r.logs, (r.fit, (sound_set r.cards (i - 1) c.look.new.card sound r.sound, tt))))))
+    record {
+      full = r.full;
+      few = r.few;
+      seven = length-set r.cards (i - 1) c.look.new.card ∙ r.seven;
+      logs = r.logs;
+      fit = r.fit;
+      sound = sound_set r.cards (i - 1) c.look.new.card sound r.sound;
+    }
 
 pub returns-in_err-look : goal.returns-in_err-look
 returns-in_err-look g c =
@@ -44,7 +50,7 @@ returns-in_err-look g c =
     let j = c.args.peer in
     let kind = c.args.kind in
     let at = c.args.backplane.now in
-    let found = paired r i j c.in_ok--own.-own c.in_ok--own.ensures in
+    let found = paired r i j c.in_ok-_own._own c.in_ok-_own.ensures in
     let own = get_or r.cards (i - 1) zeroed in
     let pair : Pair r i j own = record { card = found.card; peer = found.peer; apart = found.apart; here = found.here; copied = card_read r i zeroed found.card } in
     let wide : b.count at ≡ card_count r.size = sym c.cards.ensures ∙ c.if-cards.false ∙ c.cards-2.ensures in
@@ -70,7 +76,7 @@ returns g c =
     let j = c.args.peer in
     let kind = c.args.kind in
     let at = c.args.backplane.now in
-    let found = paired r i j c.in_ok--own.-own c.in_ok--own.ensures in
+    let found = paired r i j c.in_ok-_own._own c.in_ok-_own.ensures in
     let own = get_or r.cards (i - 1) zeroed in
     let pair : Pair r i j own = record { card = found.card; peer = found.peer; apart = found.apart; here = found.here; copied = card_read r i zeroed found.card } in
     let wide : b.count at ≡ card_count r.size = sym c.cards.ensures ∙ c.if-cards.false ∙ c.cards-2.ensures in

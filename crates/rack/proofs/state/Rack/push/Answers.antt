@@ -1,12 +1,12 @@
-use Rattle.std.proofs.Common.{◌≡◌, ℕ, ◌-◌, true, leb, [], take, drop, Ok, Err, sym, refl, ap, ◌∙◌}
+use Rattle.std.proofs.Common.{◌≡◌, true, leb, Ok, Err, sym, ◌∙◌}
 use Rattle.std.proofs.lemmas.Bool.{and_from, le-leb, eq-eqb}
 use Rattle.protocol.specs.Rack.{no_peer, is_row_kind}
-use Rattle.protocol.specs.declared.answer.Answer.TheVariants.{Done, Count}
+use Rattle.protocol.specs.declared.answer.Answer.TheVariants.{Done}
 use Rattle.cards.specs.Faults.{card_refusal}
 use Rattle.cards.specs.Sizes.{card_count}
-use Rattle.rack.specs.View.{view, sizes, entries_fit, cards_fit}
+use Rattle.rack.specs.View.{view, sizes}
 use Rattle.rack.proofs.Refused.{told_card}
-use Rattle.rack.proofs.Calls.{lent_fits, entries_fit_lem, slice_is}
+use Rattle.rack.proofs.Calls.{lent_fits}
 use Rattle.rack.proofs.Peers.{paired}
 use Rattle.rack.proofs.Exchanges.{push_done}
 use Rattle.rack.proofs.state.Rack.push.Goals as goal

@@ -1,4 +1,4 @@
-use Rattle.std.proofs.Common.{◌≡◌, ◌-◌, Bool, true, false, cond, not, ◌&&◌, leb, length, take, drop, sym, refl, ap, ◌∙◌}
+use Rattle.std.proofs.Common.{◌-◌, false, cond, not, ◌&&◌, leb, length, take, drop, sym, ap, ◌∙◌}
 use Rattle.std.proofs.lemmas.Bool.{and_from, and_right}
 use Rattle.backplane.specs.Lanes.{empty_lanes}
 use Rattle.protocol.specs.Committing.{reading}

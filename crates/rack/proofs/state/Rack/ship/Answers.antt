@@ -1,7 +1,7 @@
-use Rattle.std.proofs.Common.{◌≡◌, ℕ, ◌-◌, true, leb, [], take, drop, Ok, Err, sym, refl, ap, ◌∙◌}
-use Rattle.std.proofs.lemmas.Bool.{and_from, le-leb, eq-eqb}
-use Rattle.protocol.specs.Rack.{no_peer, is_row_kind}
-use Rattle.protocol.specs.declared.answer.Answer.TheVariants.{Done, Count}
+use Rattle.std.proofs.Common.{◌≡◌, ◌-◌, take, drop, Ok, sym, refl, ◌∙◌}
+use Rattle.std.proofs.lemmas.Bool.{and_from, eq-eqb}
+use Rattle.protocol.specs.Rack.{no_peer}
+use Rattle.protocol.specs.declared.answer.Answer.TheVariants.{Count}
 use Rattle.cards.specs.Faults.{card_refusal}
 use Rattle.cards.specs.Sizes.{card_count}
 use Rattle.rack.specs.View.{view, sizes, entries_fit, cards_fit}

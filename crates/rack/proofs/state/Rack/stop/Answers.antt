@@ -1,9 +1,7 @@
-use Rattle.std.proofs.Common.{◌≡◌, ◌-◌, true, [], ◌∷◌, get_or, Ok, sym, ap, ◌∙◌, subst}
+use Rattle.std.proofs.Common.{◌-◌, [], ◌∷◌, Ok, ap, ◌∙◌}
 use Rattle.refusals.specs.declared.Refusal.TheVariants.{Stopped}
-use Rattle.protocol.specs.Rack.{opened_card}
 use Rattle.protocol.specs.Exchange.{stopped_card}
 use Rattle.protocol.specs.declared.answer.Answer.TheVariants.{Done}
-use Rattle.cards.specs.Parts.{stop_part}
 use Rattle.rack.specs.Sound.{sound_card}
 use Rattle.rack.proofs.Calls.{written_sizes}
 use Rattle.protocol.proofs.Asked.{ask_done}

@@ -1,14 +1,12 @@
-use Rattle.std.proofs.Common.{◌≡◌, ℕ, ◌-◌, ◌≤◌, true, [], length, take, drop, Ok, sym, refl, ap, ◌∙◌, subst, arith}
+use Rattle.std.proofs.Common.{◌≡◌, ◌-◌, [], length, take, drop, Ok, sym, refl, ap, ◌∙◌, arith}
 use borrow.Rule.Slice.PartMut.{put_mid}
 use Rattle.std.proofs.lemmas.Bool.{lt-ltb, le-ltb}
 use Rattle.protocol.specs.Rack.{no_card}
-use Rattle.protocol.specs.Booking.{submit}
 use Rattle.protocol.specs.declared.answer.Answer.TheVariants.{Placed}
-use Rattle.logs.specs.Log.{log_of}
 use Rattle.cards.specs.Faults.{card_refusal}
 use Rattle.cards.specs.Sizes.{card_count}
 use Rattle.cards.proofs.Stays.{stays}
-use Rattle.rack.specs.View.{view, sizes, entries_fit}
+use Rattle.rack.specs.View.{view, sizes}
 use Rattle.rack.proofs.Views.{found}
 use Rattle.rack.proofs.Refused.{told_card}
 use Rattle.rack.proofs.Parts.{part_long, replaced, put_same}
