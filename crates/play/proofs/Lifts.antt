@@ -1,5 +1,5 @@
 -- A call that lends no machines leaves them, whatever their state is made of.
-use Rattle.std.proofs.Common.{◌≡◌, ℕ, Bool, true, false, cond, length, sym, refl, ap, ◌∙◌}
+use Rattle.std.proofs.Common.{◌≡◌, ℕ, Bool, true, false, cond, length, refl, ap, ◌∙◌}
 use Rattle.frames.specs.Fields.{Words}
 use Rattle.protocol.specs.Rack.{Sizes, State, Reply, with_card, ask}
 use Rattle.protocol.specs.Voting as voting

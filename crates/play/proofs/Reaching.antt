@@ -1,5 +1,5 @@
 -- A run that goes on from where another has come, and what holds there.
-use Rattle.std.proofs.Common.{◌≡◌, ℕ, ◌≤◌, ◌⊎◌, List, [], ◌∷◌, ◌++◌, map, length, sym, refl, ap, ◌∙◌, subst, arith}
+use Rattle.std.proofs.Common.{◌≡◌, ℕ, ◌⊎◌, List, [], ◌∷◌, ◌++◌, map, length, sym, refl, ap, ◌∙◌, subst}
 use Rattle.frames.specs.Fields.{Words, EntryFields}
 use Rattle.machines.specs.Lone.{alone}
 use Rattle.protocol.specs.Rack.{Sizes, State, opened}
@@ -7,8 +7,6 @@ use Rattle.protocol.specs.Committing.{reading}
 use Rattle.protocol.specs.declared.call.Call.{Call}
 use Rattle.laws.specs.Laws.{Begins}
 use Rattle.laws.specs.Runs.{ItemAt, after, state_from, state_at, delivered_at}
-use Rattle.cards.specs.Sizes.{card_count}
-use Rattle.cards.specs.declared.size.RackSize.{RackSize}
 use Rattle.rack.specs.Opening.{Promises, item_of}
 use Rattle.rack.specs.View.{sizes}
 use Rattle.rack.specs.declared.state.Rack.{Rack}

@@ -1,4 +1,4 @@
-use Rattle.std.proofs.Common.{◌≡◌, ◌&&◌, sym, refl, ap, ◌∙◌}
+use Rattle.std.proofs.Common.{◌&&◌, sym, refl, ap, ◌∙◌}
 use Rattle.std.proofs.lemmas.Bool.{and_from}
 use Rattle.protocol.specs.Rack.{no_card, no_peer}
 use Rattle.protocol.specs.Step.{step}
@@ -7,7 +7,7 @@ use Rattle.protocol.specs.declared.call.Call.{Call}
 use Rattle.cards.specs.Sizes.{card_count}
 use Rattle.rack.specs.Faults.{told}
 use Rattle.rack.specs.View.{view, sizes, machines_of, entries_fit, machines_fit, cards_fit}
-use Rattle.play.proofs.Lifts.{restored, told_as, fitting, lift_timeout, lift_elect, lift_win, lift_stop, lift_submit, lift_ship, lift_take, lift_push, lift_look}
+use Rattle.play.proofs.Lifts.{told_as, fitting, lift_timeout, lift_elect, lift_win, lift_stop, lift_submit, lift_ship, lift_take, lift_push, lift_look}
 use Rattle.play.proofs.calls.perform.Goals as goal
 
 pub returns-in-Timeout : goal.returns-in-Timeout

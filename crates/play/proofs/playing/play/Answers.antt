@@ -1,12 +1,12 @@
-use Rattle.std.proofs.Common.{◌≡◌, ℕ, ◌+◌, ◌<◌, ◌≤◌, true, ◌&&◌, eqb, length, get_or, take, sym, refl, ap, ◌∙◌, subst, arith}
+use Rattle.std.proofs.Common.{◌≡◌, ◌<◌, true, length, get_or, sym, refl, ap, ◌∙◌, arith}
 use Rattle.std.proofs.lemmas.List.{take_all}
-use Rattle.std.proofs.lemmas.Bool.{and_from, and_parts, eq-eqb, eqb-true}
+use Rattle.std.proofs.lemmas.Bool.{and_from, and_parts, eq-eqb}
 use Rattle.protocol.specs.Step.{step}
 use Rattle.protocol.specs.declared.call.Call.TheVariants.{Timeout}
 use Rattle.laws.specs.Runs.{state_from}
 use Rattle.cards.specs.Sizes.{card_count}
 use Rattle.rack.specs.View.{view, sizes, machines_of, entries_fit, machines_fit, cards_fit}
-use Rattle.play.specs.Runs.{play_fits, replies_from}
+use Rattle.play.specs.Runs.{replies_from}
 use Rattle.play.proofs.Turns.{all_fit, at_first, entries_still, machines_still, cards_still, state_more, replies_more}
 use Rattle.play.proofs.Reaching.{reached}
 use Rattle.play.proofs.playing.play.Goals as goal
