@@ -129,7 +129,7 @@ ok_same x y p = cc
 err_ok : {e : Refusal} (x : Frame) → ◌≡◌ {A = Result Frame Refusal} (Err e) (Ok x) → ⊥
 err_ok x p = let z : ◌≡◌ {A = ℕ} 0 1 = cc in omega arith
 
--- what `frameIf` makes has the numbers that it was given
+-- what `frame_if` makes has the numbers that it was given
 if_made : (f : FrameFields) (b : Bool) (e : is_frame (with_kind f) ≡ b) → b ≡ true → (g : Frame) → frame_fields g ≡ with_kind f → frame_if f b e ≡ Ok g
 if_made f true e t g same = ap Ok (same_frame _ g (sym same))
 if_made f false e t g same = absurd (false≢true t)

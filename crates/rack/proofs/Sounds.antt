@@ -60,7 +60,7 @@ all_rows : (rows : List PeerRow) → SoundRows rows → sound_rows rows ≡ true
 all_rows [] h = refl
 all_rows (r ∷ rows) h = and_from (sound_row r) (sound_rows rows) h.0 (all_rows rows h.1)
 
--- what soundCard says, part by part
+-- what sound_card says, part by part
 pub record Sound (c : Card) : Type 0 where
   pub accepted : is_header c.accepted ≡ true
   pub committed : is_header c.committed ≡ true
