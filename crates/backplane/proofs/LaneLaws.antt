@@ -7,7 +7,7 @@ use Rattle.std.proofs.lemmas.Bool.Decides.{nat_tests}
 use Rattle.frames.specs.declared.frame.Frame.{Frame}
 use Rattle.backplane.specs.declared.fault.LaneFault.{LaneFault}
 use Rattle.backplane.specs.declared.fault.LaneFault.TheVariants.{NoSuchLane, Full, NothingThere}
-use Rattle.backplane.specs.Lanes.{LanesOf, Lanes, is_lane, same_lane, with_lane, waiting_out, frame_out, send_out, send_lanes, drop_out, drop_lanes, send_all_out, send_all_lanes}
+use Rattle.backplane.specs.Lanes.{LanesOf, Lanes, is_lane, same_lane, with_lane, frame_out, send_out, send_lanes, drop_out, drop_lanes}
 
 pub same_lane_lem : (f t l : ℕ) → same_lane f t l f t l ≡ true
 same_lane_lem f t l = rw (eq-eqb f f refl, eq-eqb t t refl, eq-eqb l l refl)
@@ -71,48 +71,14 @@ module _ {A : Type 0} (n : ℕ) (L : LanesOf A) (f t l : ℕ) where
       each true is false fits out = let z : ◌≡◌ {A = ℕ} 0 1 = cc in absurd (omega arith)
 
   module _ (isnt : is_lane n f t l ≡ false) where
-    pub no_waiting : waiting_out n L f t l ≡ Err NoSuchLane
-    no_waiting = cond-false _ _ _ isnt
-
     pub no_frame : (k : ℕ) → frame_out n L f t l k ≡ Err NoSuchLane
     no_frame k = cond-false _ _ _ isnt
-
-    pub no_send : (c : ℕ) → send_out n c L f t l ≡ Err NoSuchLane
-    no_send c = cond-false _ _ _ isnt
-
-    pub no_drop : (k : ℕ) → drop_out n L f t l k ≡ Err NoSuchLane
-    no_drop k = cond-false _ _ _ isnt
-
-    pub no_drop_keeps : (k : ℕ) → drop_lanes n L f t l k ≡ L
-    no_drop_keeps k = cond-false _ _ _ (and_left _ _ isnt)
 
 -- a frame after others that were sent to the same lane
 pub send_more : (n c : ℕ) (L M : Lanes) (f t l : ℕ) (ys : List Frame) (x : Frame) → is_lane n f t l ≡ true → M ≡ with_lane L f t l ys → length ys < c → send_lanes n c M f t l x ≡ with_lane L f t l (ys ++ x ∷ [])
 send_more n c L M f t l ys x is e fits =
     let here : M f t l ≡ ys = ap (λ (N : Lanes). N f t l) e ∙ with_here L f t l ys in
     rw (here, is, lt-ltb (length ys) c fits, e, with_with L f t l ys (ys ++ x ∷ []))
-
--- what the look at the lane says of the list that is to be sent
-module _ (n c : ℕ) (L : Lanes) (f t l : ℕ) (xs : List Frame) where
-  pub all_no_lane : (e : LaneFault) → Err e ≡ waiting_out n L f t l → (Err e ≡ send_all_out n c L f t l xs) × (L ≡ send_all_lanes n c L f t l xs)
-  all_no_lane e h = go (is_lane n f t l) refl h
-    where
-      go : (b : Bool) → is_lane n f t l ≡ b → ◌≡◌ {A = Result ℕ LaneFault} (Err e) (cond b (Ok (length (L f t l))) (Err NoSuchLane)) → (Err e ≡ send_all_out n c L f t l xs) × (L ≡ send_all_lanes n c L f t l xs)
-      go true is h = let z : ◌≡◌ {A = ℕ} 0 1 = cc in absurd (omega arith)
-      go false is h = let same : e ≡ NoSuchLane = cc in (rw (is, same), rw is)
-
-  pub lane_there : (k : ℕ) → Ok k ≡ waiting_out n L f t l → (is_lane n f t l ≡ true) × (k ≡ length (L f t l))
-  lane_there k h = go (is_lane n f t l) refl h
-    where
-      go : (b : Bool) → is_lane n f t l ≡ b → ◌≡◌ {A = Result ℕ LaneFault} (Ok k) (cond b (Ok (length (L f t l))) (Err NoSuchLane)) → (is_lane n f t l ≡ true) × (k ≡ length (L f t l))
-      go true e h = (e, cc)
-      go false e h = let z : ◌≡◌ {A = ℕ} 0 1 = cc in absurd (omega arith)
-
-  pub all_too_many : is_lane n f t l ≡ true → c < length (L f t l) + length xs → (Err Full ≡ send_all_out n c L f t l xs) × (L ≡ send_all_lanes n c L f t l xs)
-  all_too_many is over = (rw (is, lt-ltb _ _ over), rw (is, lt-leb _ _ over))
-
-  pub all_fit : is_lane n f t l ≡ true → length (L f t l) + length xs ≤ c → (Ok tt ≡ send_all_out n c L f t l xs) × (with_lane L f t l (L f t l ++ xs) ≡ send_all_lanes n c L f t l xs)
-  all_fit is fits = (rw (is, le-ltb _ _ fits), rw (is, le-leb _ _ fits))
 
 -- one frame more of a list that fits, where M is what the frames before it have left
 pub send_turn : (n c n' c' : ℕ) (L M : Lanes) (f t l : ℕ) (xs : List Frame) (i : ℕ) (x : Frame) → is_lane n f t l ≡ true → length (L f t l) + length xs ≤ c → i < length xs → x ≡ get_or xs i x → n' ≡ n → c' ≡ c → M ≡ with_lane L f t l (L f t l ++ take i xs) → (send_out n' c' M f t l ≡ Ok tt) × (send_lanes n' c' M f t l x ≡ with_lane L f t l (L f t l ++ take (i + 1) xs))

@@ -13,6 +13,7 @@ pub enum LaneFault {
 }
 
 impl LaneFault {
+    // Kept: `?` and `into` give the same; by this name it is asked for where nothing is returned.
     pub fn refusal(self) -> Refusal
         ensures { result ≡ fault_refusal self }
     {
@@ -28,5 +29,13 @@ impl LaneFault {
         ensures { result ≡ refusal_number (fault_refusal self) }
     {
         self.refusal().number()
+    }
+}
+
+impl From<LaneFault> for Refusal {
+    ghost from_gives = { λ a r. r ≡ fault_refusal a };
+
+    fn from(fault: LaneFault) -> Refusal {
+        fault.refusal()
     }
 }

@@ -3,6 +3,7 @@ ghost use Rattle.std.specs.Prelude.{◌≡◌, ℕ, ◌≤◌, false, [], length
 ghost use Rattle.backplane.specs.Lanes.{Lanes, is_lane, waiting_out, frame_out, send_out, send_lanes, drop_out, drop_lanes};
 
 use crate::fault::LaneFault;
+use crate::lane::Lane;
 use frames::Frame;
 
 pub trait Backplane {
@@ -27,22 +28,24 @@ pub trait Backplane {
     fn capacity(&self) -> usize
         ensures { result ≡ room self.now };
 
-    fn waiting(&self, from: u8, to: u8, lane: u8) -> Result<usize, LaneFault>
-        ensures { result ≡ waiting_out (count self.now) (lanes self.now) from to lane };
+    fn waiting(&self, lane: Lane) -> Result<usize, LaneFault>
+        ensures { result ≡ waiting_out (count self.now) (lanes self.now) lane.from lane.to lane.number };
 
     // The frame at a position counted from 0.
-    fn frame_at(&self, from: u8, to: u8, lane: u8, position: usize) -> Result<Frame, LaneFault>
-        ensures { result ≡ frame_out (count self.now) (lanes self.now) from to lane position };
+    fn frame_at(&self, lane: Lane, position: usize) -> Result<Frame, LaneFault>
+        ensures { result ≡ frame_out (count self.now) (lanes self.now) lane.from lane.to lane.number position };
 
-    fn send(&mut self, from: u8, to: u8, lane: u8, frame: Frame) -> Result<(), LaneFault>
-        ensures answer { result ≡ send_out (count self.old) (room self.old) (lanes self.old) from to lane }
-        ensures lanes { lanes self.new ≡ send_lanes (count self.old) (room self.old) (lanes self.old) from to lane frame }
+    // Kept: `count` and `room` stand at each function that takes a backplane as `&mut`, here and above. They are two facts of
+    // one line; a name for both would have to be looked up at each, and says no less by being written out.
+    fn send(&mut self, lane: Lane, frame: Frame) -> Result<(), LaneFault>
+        ensures answer { result ≡ send_out (count self.old) (room self.old) (lanes self.old) lane.from lane.to lane.number }
+        ensures lanes { lanes self.new ≡ send_lanes (count self.old) (room self.old) (lanes self.old) lane.from lane.to lane.number frame }
         ensures count { count self.new ≡ count self.old }
         ensures room { room self.new ≡ room self.old };
 
-    fn drop_first(&mut self, from: u8, to: u8, lane: u8, k: usize) -> Result<(), LaneFault>
-        ensures answer { result ≡ drop_out (count self.old) (lanes self.old) from to lane k }
-        ensures lanes { lanes self.new ≡ drop_lanes (count self.old) (lanes self.old) from to lane k }
+    fn drop_first(&mut self, lane: Lane, k: usize) -> Result<(), LaneFault>
+        ensures answer { result ≡ drop_out (count self.old) (lanes self.old) lane.from lane.to lane.number k }
+        ensures lanes { lanes self.new ≡ drop_lanes (count self.old) (lanes self.old) lane.from lane.to lane.number k }
         ensures count { count self.new ≡ count self.old }
         ensures room { room self.new ≡ room self.old };
 }

@@ -2,11 +2,13 @@
 #![tactic(auto)]
 
 pub mod fault;
+pub mod lane;
 pub mod lanes;
 mod quiet;
 pub mod sending;
 
 pub use fault::LaneFault;
+pub use lane::Lane;
 pub use lanes::Backplane;
 pub use quiet::is_quiet;
 pub use sending::send_all;

@@ -1,27 +1,19 @@
-// A call and the answer that it must get. Frames are messages, told apart by their count.
-use backplane::{Backplane, LaneFault};
-use frames::Frame;
+// A call and the reply that it must get. Frames are messages, told apart by their count.
+use backplane::{Backplane, Lane, LaneFault};
+use frames::{Frame, Kind};
+use lane_calls::{Answer, Call, Reply, apply};
 use refusals::Refusal;
 use std::process::Abort;
 use std::test::Fail;
 
-pub type Lane = (u8, u8, u8);
-
-#[derive(Clone, Copy)]
-pub enum Step {
-    Send(Lane, u32, Result<(), LaneFault>),
-    Drop(Lane, usize, Result<(), LaneFault>),
-    Waiting(Lane, Result<usize, LaneFault>),
-    At(Lane, usize, Result<u32, LaneFault>),
-}
+pub type Step = (Call, Reply);
 
 pub(crate) fn message(count: u32) -> Result<Frame, Refusal> {
-    Frame::new(1, (0, 1, count), (4, 2, 3, 5))
+    Frame::of(Kind::Message, (0, 1, count), (4, 2, 3, 5))
 }
 
-fn count_of(answer: Result<Frame, LaneFault>) -> Result<u32, LaneFault> {
-    let frame = answer?;
-    Ok(frame.count)
+pub(crate) fn lane(from: u8, to: u8, number: u8) -> Lane {
+    Lane { from, to, number }
 }
 
 pub(crate) fn walk<B: Backplane>(
@@ -29,85 +21,84 @@ pub(crate) fn walk<B: Backplane>(
     backplane: &mut B,
     steps: &[Step],
 ) -> Result<(), Fail> {
-    for step in steps {
-        match *step {
-            Step::Send((from, to, lane), count, answer) => {
-                assert_eq!(rt; backplane.send(from, to, lane, message(count)?), answer);
-            }
-            Step::Drop((from, to, lane), k, answer) => {
-                assert_eq!(rt; backplane.drop_first(from, to, lane, k), answer);
-            }
-            Step::Waiting((from, to, lane), answer) => {
-                assert_eq!(rt; backplane.waiting(from, to, lane), answer);
-            }
-            Step::At((from, to, lane), position, answer) => {
-                assert_eq!(rt;
-                    count_of(backplane.frame_at(from, to, lane, position)),
-                    answer
-                );
-            }
-        }
+    for (call, reply) in steps {
+        assert_eq!(rt; apply(backplane, *call), *reply);
     }
     Ok(())
 }
 
 // Fills a lane to eight, goes twice round it, and meets every refusal; other lanes stay as they were.
 pub(crate) fn eight_to_a_lane() -> [Step; 40] {
-    let lane = (1, 2, 0);
-    let other = (2, 1, 6);
+    let done = Ok(Answer::Done);
+    let full = Err(LaneFault::Full.refusal());
+    let nothing = Err(LaneFault::NothingThere.refusal());
+    let first = lane(1, 2, 0);
+    let other = lane(2, 1, 6);
     [
-        Step::Waiting(lane, Ok(0)),
-        Step::At(lane, 0, Err(LaneFault::NothingThere)),
-        Step::Drop(lane, 0, Ok(())),
-        Step::Drop(lane, 1, Err(LaneFault::NothingThere)),
-        Step::Send(other, 77, Ok(())),
-        Step::Send(lane, 1, Ok(())),
-        Step::Send(lane, 2, Ok(())),
-        Step::Send(lane, 3, Ok(())),
-        Step::Send(lane, 4, Ok(())),
-        Step::Send(lane, 5, Ok(())),
-        Step::Send(lane, 6, Ok(())),
-        Step::Send(lane, 7, Ok(())),
-        Step::Send(lane, 8, Ok(())),
-        Step::Send(lane, 9, Err(LaneFault::Full)),
-        Step::Waiting(lane, Ok(8)),
-        Step::At(lane, 0, Ok(1)),
-        Step::At(lane, 7, Ok(8)),
-        Step::At(lane, 8, Err(LaneFault::NothingThere)),
-        Step::Drop(lane, 9, Err(LaneFault::NothingThere)),
-        Step::Drop(lane, 7, Ok(())),
-        Step::At(lane, 0, Ok(8)),
-        Step::Send(lane, 9, Ok(())),
-        Step::Send(lane, 10, Ok(())),
-        Step::At(lane, 2, Ok(10)),
-        Step::Drop(lane, 2, Ok(())),
-        Step::Send(lane, 11, Ok(())),
-        Step::Send(lane, 12, Ok(())),
-        Step::Send(lane, 13, Ok(())),
-        Step::Send(lane, 14, Ok(())),
-        Step::Send(lane, 15, Ok(())),
-        Step::Send(lane, 16, Ok(())),
-        Step::Send(lane, 17, Ok(())),
-        Step::Send(lane, 18, Err(LaneFault::Full)),
-        Step::At(lane, 0, Ok(10)),
-        Step::At(lane, 7, Ok(17)),
-        Step::Waiting((1, 3, 0), Ok(0)),
-        Step::Waiting((1, 2, 4), Ok(0)),
-        Step::At(other, 0, Ok(77)),
-        Step::Drop(lane, 8, Ok(())),
-        Step::Waiting(lane, Ok(0)),
+        (Call::Waiting(first), Ok(Answer::Count(0))),
+        (Call::At(first, 0), nothing),
+        (Call::Drop(first, 0), done),
+        (Call::Drop(first, 1), nothing),
+        (Call::Send(other, message(77)), done),
+        (Call::Send(first, message(1)), done),
+        (Call::Send(first, message(2)), done),
+        (Call::Send(first, message(3)), done),
+        (Call::Send(first, message(4)), done),
+        (Call::Send(first, message(5)), done),
+        (Call::Send(first, message(6)), done),
+        (Call::Send(first, message(7)), done),
+        (Call::Send(first, message(8)), done),
+        (Call::Send(first, message(9)), full),
+        (Call::Waiting(first), Ok(Answer::Count(8))),
+        (Call::At(first, 0), message(1).map(Answer::Shown)),
+        (Call::At(first, 7), message(8).map(Answer::Shown)),
+        (Call::At(first, 8), nothing),
+        (Call::Drop(first, 9), nothing),
+        (Call::Drop(first, 7), done),
+        (Call::At(first, 0), message(8).map(Answer::Shown)),
+        (Call::Send(first, message(9)), done),
+        (Call::Send(first, message(10)), done),
+        (Call::At(first, 2), message(10).map(Answer::Shown)),
+        (Call::Drop(first, 2), done),
+        (Call::Send(first, message(11)), done),
+        (Call::Send(first, message(12)), done),
+        (Call::Send(first, message(13)), done),
+        (Call::Send(first, message(14)), done),
+        (Call::Send(first, message(15)), done),
+        (Call::Send(first, message(16)), done),
+        (Call::Send(first, message(17)), done),
+        (Call::Send(first, message(18)), full),
+        (Call::At(first, 0), message(10).map(Answer::Shown)),
+        (Call::At(first, 7), message(17).map(Answer::Shown)),
+        (Call::Waiting(lane(1, 3, 0)), Ok(Answer::Count(0))),
+        (Call::Waiting(lane(1, 2, 4)), Ok(Answer::Count(0))),
+        (Call::At(other, 0), message(77).map(Answer::Shown)),
+        (Call::Drop(first, 8), done),
+        (Call::Waiting(first), Ok(Answer::Count(0))),
     ]
 }
 
-pub(crate) fn missing_lanes() -> [Step; 8] {
+fn missing_lanes() -> [Step; 8] {
+    let missing = Err(LaneFault::NoSuchLane.refusal());
     [
-        Step::Send((0, 1, 0), 1, Err(LaneFault::NoSuchLane)),
-        Step::Send((1, 8, 0), 1, Err(LaneFault::NoSuchLane)),
-        Step::Send((2, 2, 0), 1, Err(LaneFault::NoSuchLane)),
-        Step::Send((1, 2, 1), 1, Err(LaneFault::NoSuchLane)),
-        Step::Drop((1, 2, 3), 0, Err(LaneFault::NoSuchLane)),
-        Step::Waiting((1, 2, 7), Err(LaneFault::NoSuchLane)),
-        Step::At((1, 2, 255), 0, Err(LaneFault::NoSuchLane)),
-        Step::Waiting((255, 1, 0), Err(LaneFault::NoSuchLane)),
+        (Call::Send(lane(0, 1, 0), message(1)), missing),
+        (Call::Send(lane(1, 8, 0), message(1)), missing),
+        (Call::Send(lane(2, 2, 0), message(1)), missing),
+        (Call::Send(lane(1, 2, 1), message(1)), missing),
+        (Call::Drop(lane(1, 2, 3), 0), missing),
+        (Call::Waiting(lane(1, 2, 7)), missing),
+        (Call::At(lane(1, 2, 255), 0), missing),
+        (Call::Waiting(lane(255, 1, 0)), missing),
     ]
+}
+
+// A call finds a missing lane before it sends; the backplane's own send refuses it too.
+pub(crate) fn miss_lanes<B: Backplane>(rt: &impl Abort, backplane: &mut B) -> Result<(), Fail> {
+    for nowhere in [lane(0, 1, 0), lane(1, 8, 0), lane(2, 2, 0), lane(1, 2, 1)] {
+        assert_eq!(rt;
+            backplane.send(nowhere, message(1)?),
+            Err(LaneFault::NoSuchLane)
+        );
+    }
+    walk(rt, backplane, &missing_lanes())
 }

@@ -1,7 +1,8 @@
-use crate::steps::{Step, eight_to_a_lane, message, missing_lanes, walk};
+use crate::steps::{eight_to_a_lane, lane, message, miss_lanes, walk};
 use backplane::{Backplane, LaneFault, send_all};
 use frame_box::FrameBox;
 use frames::slot::SLOT;
+use lane_calls::{Answer, Call};
 use rings::{Rings, shape_for};
 use std::test::Fail;
 
@@ -10,25 +11,25 @@ fn frame_box_keeps_its_lanes(rt: HostRuntime) -> Result<(), Fail> {
     let mut frames = FrameBox::new();
     assert!(rt; frames.cards() == 3 && frames.capacity() == 8);
     walk(&rt, &mut frames, &eight_to_a_lane())?;
-    walk(&rt, &mut frames, &missing_lanes())?;
+    miss_lanes(&rt, &mut frames)?;
     assert_eq!(rt;
-        send_all(&mut frames, 3, 1, 4, &[message(1)?, message(2)?]),
+        send_all(&mut frames, lane(3, 1, 4), &[message(1)?, message(2)?]),
         Ok(())
     );
     assert_eq!(rt;
-        send_all(&mut frames, 3, 1, 4, &[message(3)?; 7]),
+        send_all(&mut frames, lane(3, 1, 4), &[message(3)?; 7]),
         Err(LaneFault::Full)
     );
     assert_eq!(rt;
-        send_all(&mut frames, 3, 3, 4, &[]),
+        send_all(&mut frames, lane(3, 3, 4), &[]),
         Err(LaneFault::NoSuchLane)
     );
     walk(
         &rt,
         &mut frames,
         &[
-            Step::Waiting((3, 1, 4), Ok(2)),
-            Step::At((3, 1, 4), 1, Ok(2)),
+            (Call::Waiting(lane(3, 1, 4)), Ok(Answer::Count(2))),
+            (Call::At(lane(3, 1, 4), 1), message(2).map(Answer::Shown)),
         ],
     )
 }
@@ -40,21 +41,24 @@ fn rings_keep_their_lanes(rt: HostRuntime) -> Result<(), Fail> {
         let mut rings = Rings::over(&mut bytes[..], shape_for(3, 8, 13824)?);
         assert!(rt; rings.cards() == 3 && rings.capacity() == 8);
         walk(&rt, &mut rings, &eight_to_a_lane())?;
-        walk(&rt, &mut rings, &missing_lanes())?;
+        miss_lanes(&rt, &mut rings)?;
         assert_eq!(rt;
-            send_all(&mut rings, 3, 1, 4, &[message(1)?, message(2)?]),
+            send_all(&mut rings, lane(3, 1, 4), &[message(1)?, message(2)?]),
             Ok(())
         );
         assert_eq!(rt;
-            send_all(&mut rings, 3, 1, 4, &[message(3)?; 7]),
+            send_all(&mut rings, lane(3, 1, 4), &[message(3)?; 7]),
             Err(LaneFault::Full)
         );
-        assert_eq!(rt; rings.slot_start(3, 1, 4, 2), Err(LaneFault::NothingThere));
+        assert_eq!(rt;
+            rings.slot_start(lane(3, 1, 4), 2),
+            Err(LaneFault::NothingThere)
+        );
     }
     // lent for another shape, the bytes make a backplane without cards
     let mut rings = Rings::over(&mut bytes[..], shape_for(3, 1, 36 * SLOT)?);
     assert!(rt; rings.cards() == 0);
-    walk(&rt, &mut rings, &missing_lanes())
+    miss_lanes(&rt, &mut rings)
 }
 
 #[test]

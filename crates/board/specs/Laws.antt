@@ -1,26 +1,24 @@
 -- What the board promises to those who book.
-use Rattle.std.specs.Prelude.{◌≡◌, ℕ, ◌⊎◌, List, [], ◌∷◌, ◌++◌, Some}
+use Rattle.std.specs.Prelude.{◌≡◌, ℕ, ◌⊎◌, List, [], ◌∷◌, ◌++◌, Some, None}
 use Rattle.machines.specs.Lone.{alone}
 use Rattle.machines.specs.declared.runs.Item.{Item}
-use Rattle.board.specs.Bookings.{unpacked}
+use Rattle.board.specs.Bookings.{Payload, unpacked}
 use Rattle.board.specs.Loads.{holder_of, all_open, acted}
 use Rattle.board.specs.declared.bookings.Act.TheVariants.{Release}
-use Rattle.board.specs.declared.bookings.BoardPayload.{BoardPayload}
-use Rattle.board.specs.declared.bookings.BoardPayload.TheVariants.{Blank, Asked}
 
 -- a load is never held by two carriers
 abbrev pub OneHolder : Type 0
 OneHolder = (holders : List ℕ) (load a b : ℕ) → holder_of holders load ≡ Some a → holder_of holders load ≡ Some b → a ≡ b
 
 -- this payload is this carrier's release of this load
-abbrev pub Releases : BoardPayload → ℕ → ℕ → Type 0
-Releases Blank load carrier = ⊥
-Releases (Asked b) load carrier = (b.act ≡ Release) × (b.load ≡ load) × (b.carrier ≡ carrier)
+abbrev pub Releases : Payload → ℕ → ℕ → Type 0
+Releases None load carrier = ⊥
+Releases (Some b) load carrier = (b.act ≡ Release) × (b.load ≡ load) × (b.carrier ≡ carrier)
 
 -- a load that is held changes hands only through a release by its holder
 abbrev pub HeldUntilReleased : Type 0
 HeldUntilReleased =
-    (queue : ℕ) (payload : BoardPayload) (holders : List ℕ) (load carrier : ℕ)
+    (queue : ℕ) (payload : Payload) (holders : List ℕ) (load carrier : ℕ)
     → holder_of holders load ≡ Some carrier
     → (holder_of (acted queue payload holders) load ≡ Some carrier) ⊎ Releases payload load carrier
 

@@ -2,8 +2,7 @@
 use Rattle.std.specs.Prelude.{ℕ, cond, List, replicate, Some, None, Option, ◌==◌, nat_lt, slice_index, slice_set}
 use Rattle.board.specs.declared.bookings.Act.{Act}
 use Rattle.board.specs.declared.bookings.Act.TheVariants.{Book, Release}
-use Rattle.board.specs.declared.bookings.BoardPayload.{BoardPayload}
-use Rattle.board.specs.declared.bookings.BoardPayload.TheVariants.{Blank, Asked}
+use Rattle.board.specs.Bookings.{Payload}
 
 abbrev pub held_by : ℕ → Option ℕ
 held_by holder = cond (holder == 0) None (Some holder)
@@ -23,6 +22,6 @@ abbrev pub changed : Act → ℕ → ℕ → List ℕ → List ℕ
 changed Book load carrier holders = cond (slice_index holders load == 0) (slice_set holders load carrier) holders
 changed Release load carrier holders = cond (slice_index holders load == carrier) (slice_set holders load 0) holders
 
-abbrev pub acted : ℕ → BoardPayload → List ℕ → List ℕ
-acted queue Blank holders = holders
-acted queue (Asked b) holders = changed b.act b.load b.carrier holders
+abbrev pub acted : ℕ → Payload → List ℕ → List ℕ
+acted queue None holders = holders
+acted queue (Some b) holders = changed b.act b.load b.carrier holders

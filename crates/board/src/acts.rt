@@ -16,13 +16,8 @@ impl Board {
         ensures value { result ≡ reported self.now.holders load }
         ensures once { OneHolder }
     {
-        if load >= 64 {
-            return None;
-        }
-        match self.holders[load as usize] {
-            0 => None,
-            carrier => Some(carrier),
-        }
+        let holder = self.holders.get(load as usize).copied();
+        holder.filter(|carrier| *carrier != 0)
     }
 }
 
@@ -59,7 +54,7 @@ impl Machine for Board {
         ensures after { self.new.holders ≡ acted queue payload self.old.holders }
         ensures law { HeldUntilReleased }
     {
-        let BoardPayload::Asked(booking) = payload else {
+        let Some(booking) = payload else {
             return;
         };
         let index = booking.load as usize;
@@ -72,14 +67,13 @@ impl Machine for Board {
     }
 
     fn make(draft: (u64, Act, u64)) -> Result<BoardPayload, Refusal> {
-        let booking = Booking::new(draft.0, draft.1, draft.2)?;
-        Ok(BoardPayload::Asked(booking))
+        Ok(Some(Booking::new(draft.0, draft.1, draft.2)?))
     }
 
     fn pack(payload: BoardPayload) -> Words {
         match payload {
-            BoardPayload::Blank => (0, 0, 0),
-            BoardPayload::Asked(booking) => (
+            None => (0, 0, 0),
+            Some(booking) => (
                 booking.load as u64,
                 booking.act as u64,
                 booking.carrier as u64,
@@ -88,16 +82,11 @@ impl Machine for Board {
     }
 
     fn unpack(words: Words) -> BoardPayload {
-        let Some(act) = Act::of_number(words.1) else {
-            return BoardPayload::Blank;
-        };
-        match Booking::new(words.0, act, words.2) {
-            Ok(booking) => BoardPayload::Asked(booking),
-            Err(_) => BoardPayload::Blank,
-        }
+        let act = Act::try_from(words.1).ok()?;
+        Booking::new(words.0, act, words.2).ok()
     }
 
     fn blank() -> BoardPayload {
-        BoardPayload::Blank
+        None
     }
 }

@@ -16,9 +16,5 @@ pub struct Booking {
     ghost inside: { bookable load carrier ≡ true },
 }
 
-// The blank payload stands outside the ranges of a booking: load 0, no act, carrier 0.
-#[derive(Clone, Copy, PartialEq, Eq, Debug)]
-pub enum BoardPayload {
-    Blank,
-    Asked(Booking),
-}
+// What the board is asked, if anything: the blank payload asks nothing. Its words, load 0, act 0 and carrier 0, are outside the ranges of a booking.
+pub type BoardPayload = Option<Booking>;

@@ -9,4 +9,5 @@ mod runs;
 
 pub use bookings::{Act, BoardPayload, Booking};
 pub use loads::Board;
+pub use making::Shown;
 pub use runs::lone_board;

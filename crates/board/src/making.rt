@@ -15,14 +15,18 @@ impl Act {
     {
         self as u8
     }
+}
 
-    pub fn of_number(number: u64) -> Option<Act>
-        ensures { result ≡ act_of number }
-    {
+impl TryFrom<u64> for Act {
+    type Error = Refusal;
+
+    ghost try_from_gives = { λ n r. r ≡ ok_or (act_of n) OutOfRange };
+
+    fn try_from(number: u64) -> Result<Act, Refusal> {
         match number {
-            1 => Some(Act::Book),
-            2 => Some(Act::Release),
-            _ => None,
+            1 => Ok(Act::Book),
+            2 => Ok(Act::Release),
+            _ => Err(Refusal::OutOfRange),
         }
     }
 }
@@ -30,22 +34,21 @@ impl Act {
 fn in_range(load: u64, carrier: u64) -> bool
     ensures { result ≡ bookable load carrier }
 {
-    load < 64 && carrier > 0 && carrier < 65536
+    load < 64 && (1..65536).contains(&carrier)
 }
 
 impl Booking {
     pub fn new(load: u64, act: Act, carrier: u64) -> Result<Booking, Refusal>
         ensures { result ≡ ok_or (booking (load, act, carrier)) OutOfRange }
     {
-        if in_range(load, carrier) {
-            Ok(Booking {
-                load: load as u8,
-                act,
-                carrier: carrier as u16,
-            })
-        } else {
-            Err(Refusal::OutOfRange)
+        if !in_range(load, carrier) {
+            return Err(Refusal::OutOfRange);
         }
+        Ok(Booking {
+            load: load as u8,
+            act,
+            carrier: carrier as u16,
+        })
     }
 }
 
@@ -60,11 +63,15 @@ impl fmt::Display for Booking {
     }
 }
 
-impl fmt::Display for BoardPayload {
+// A payload for a reader.
+#[derive(Clone, Copy, PartialEq, Eq, Debug)]
+pub struct Shown(pub BoardPayload);
+
+impl fmt::Display for Shown {
     fn fmt<W: fmt::Write>(&self, f: &mut fmt::Formatter<W>) -> fmt::Result {
-        match self {
-            BoardPayload::Blank => write!(f, "blank"),
-            BoardPayload::Asked(booking) => write!(f, "{booking}"),
+        match self.0 {
+            Some(booking) => write!(f, "{booking}"),
+            None => write!(f, "blank"),
         }
     }
 }

@@ -1,7 +1,8 @@
 // What the cards' boards say of the load, and whether the running cards agree.
 use crate::steps::Span;
 use crate::table::Table;
-use crate::words::Heading;
+use crate::words::Named;
+use backplane::Backplane;
 use std::{fmt, io};
 
 // The load that every part is about.
@@ -15,26 +16,19 @@ pub struct Sight {
     pub logged: usize,
 }
 
-impl Table {
+impl<B: Backplane> Table<'_, B> {
     pub(crate) fn holder(&self, card: u8) -> Option<u16> {
-        match self.boards.get(card.saturating_sub(1) as usize) {
-            Some(board) => board.holder(LOAD),
-            None => None,
-        }
+        self.boards.get(card.checked_sub(1)? as usize)?.holder(LOAD)
     }
 
     fn is_stopped(&self, card: u8) -> bool {
-        match self.rack.card(card) {
-            Ok(own) => own.stopped,
-            Err(_) => true,
-        }
+        self.rack.card(card).map_or(true, |own| own.stopped)
     }
 
     pub(crate) fn logged(&self, card: u8) -> usize {
-        match self.rack.log(self.entries.as_slice(), card) {
-            Ok(log) => log.len(),
-            Err(_) => 0,
-        }
+        self.rack
+            .log(self.entries.as_slice(), card)
+            .map_or(0, |log| log.len())
     }
 
     fn sight(&self, card: u8) -> Sight {
@@ -46,44 +40,36 @@ impl Table {
     }
 
     // Prints every card's board, cards that show the same together.
-    pub(crate) fn show_boards(&self, rt: &HostRuntime) -> io::Result<()> {
-        let mut span = Span::one(1);
-        let mut sight = self.sight(1);
-        for card in 2..=self.cards {
-            let other = self.sight(card);
-            if other == sight {
-                span.last = card;
-            } else {
-                print_sight(rt, span, sight)?;
-                span = Span::one(card);
-                sight = other;
+    pub(crate) fn show_boards(&self) -> io::Result<()> {
+        let rt = self.rt;
+        let sights: Vec<(u8, Sight)> = (1..=self.cards)
+            .map(|card| (card, self.sight(card)))
+            .collect(rt.alloc())?;
+        for same in sights.as_slice().chunk_by(|one, next| one.1 == next.1) {
+            if let (Some((first, sight)), Some((last, _))) = (same.first(), same.last()) {
+                let head = Named("Card", Span::new(*first, *last));
+                println!(rt; "  > {head}{sight}")?;
             }
         }
-        print_sight(rt, span, sight)
+        Ok(())
     }
 
     // Who holds the load on every running card; None where they differ.
     pub(crate) fn agreed(&self) -> Option<Option<u16>> {
-        let mut found = None;
-        for card in 1..=self.cards {
-            let holder = self.holder(card);
-            match found {
-                _ if self.is_stopped(card) => {}
-                None => found = Some(holder),
-                Some(other) if other == holder => {}
-                Some(_) => return None,
-            }
-        }
-        found
+        let mut holders = (1..=self.cards)
+            .filter(|card| !self.is_stopped(*card))
+            .map(|card| self.holder(card));
+        let first = holders.next()?;
+        holders.all(|holder| holder == first).then_some(first)
     }
 }
 
-fn print_sight(rt: &HostRuntime, span: Span, sight: Sight) -> io::Result<()> {
-    let head = Heading(span);
-    let holding = Holding(sight.holder);
-    let logged = sight.logged;
-    let state = if sight.stopped { " (stopped)" } else { "" };
-    println!(rt; "  > {head}{state}: {holding}, entries in the log: {logged}")
+impl fmt::Display for Sight {
+    fn fmt<W: fmt::Write>(&self, f: &mut fmt::Formatter<W>) -> fmt::Result {
+        let state = if self.stopped { " (stopped)" } else { "" };
+        let holding = Holding(self.holder);
+        write!(f, "{state}: {holding}, entries in the log: {}", self.logged)
+    }
 }
 
 // Who holds the load, in words.

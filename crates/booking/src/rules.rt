@@ -47,73 +47,50 @@ impl fmt::Display for Rule {
 
 impl fmt::Display for Moral {
     fn fmt<W: fmt::Write>(&self, f: &mut fmt::Formatter<W>) -> fmt::Result {
-        match self.rule() {
-            Rule::FreshLog => write_stale(f, *self),
-            Rule::MajorityConfirms => {
+        let last = self.scene.cards;
+        let elsewhere = Elsewhere(self.held);
+        match (self.rule(), self.promised) {
+            (Rule::FreshLog, Some(carrier)) => write!(
+                f,
+                "card {last} would have led with {} entries in its log, and load {LOAD} would have gone to carrier {SECOND}.\n  But card 1's board had given it to carrier {carrier}: two trucks, one load",
+                self.begun
+            ),
+            (Rule::FreshLog, None) => write!(
+                f,
+                "card {last} would have led with {} entries in its log, and the booking of carrier {FIRST} would be gone.\n  Card 1 had no majority and held it back: the load would be lost to the carrier, not sold twice",
+                self.begun
+            ),
+            (Rule::MajorityConfirms, _) => write!(
+                f,
+                "card 1 would have given load {LOAD} to carrier {FIRST} on its own board{elsewhere}"
+            ),
+            (Rule::VotedLeaves, _) => write!(
+                f,
+                "card 2 would have added the late entry, and card 1 given the load to carrier {FIRST}{elsewhere}"
+            ),
+            (Rule::MajorityElects, _) => {
+                let leaders = last.saturating_sub(1);
                 write!(
                     f,
-                    "card 1 would have given load {LOAD} to carrier {FIRST} on its own board"
-                )?;
-                write_twice(f, self.held)
+                    "each of cards 2 to {last}, which all stood, could have led on its own vote,\n  and given the load to a truck of its own: {leaders} trucks, one load"
+                )
             }
-            Rule::VotedLeaves => {
-                write!(
-                    f,
-                    "card 2 would have added the late entry, and card 1 given the load to carrier {FIRST}"
-                )?;
-                write_twice(f, self.held)
-            }
-            Rule::MajorityElects => write_leaders(f, self.scene.cards),
         }
     }
 }
 
-fn write_stale<W: fmt::Write>(f: &mut fmt::Formatter<W>, moral: Moral) -> fmt::Result {
-    let last = moral.scene.cards;
-    let begun = moral.begun;
-    write!(
-        f,
-        "card {last} would have led with {begun} entries in its log, and "
-    )?;
-    match moral.promised {
-        Some(carrier) => write_resold(f, carrier),
-        None => write_dropped(f),
+// Who has the load on the other cards.
+#[derive(Clone, Copy)]
+struct Elsewhere(Option<u16>);
+
+impl fmt::Display for Elsewhere {
+    fn fmt<W: fmt::Write>(&self, f: &mut fmt::Formatter<W>) -> fmt::Result {
+        match self.0 {
+            Some(carrier) => write!(
+                f,
+                ".\n  The other cards gave it to carrier {carrier}: two trucks, one load"
+            ),
+            None => f.write_str(", and the other cards would not know"),
+        }
     }
-}
-
-fn write_resold<W: fmt::Write>(f: &mut fmt::Formatter<W>, carrier: u16) -> fmt::Result {
-    write!(f, "load {LOAD} would have gone to carrier {SECOND}.\n  ")?;
-    write!(
-        f,
-        "But card 1's board had given it to carrier {carrier}: two trucks, one load"
-    )
-}
-
-fn write_dropped<W: fmt::Write>(f: &mut fmt::Formatter<W>) -> fmt::Result {
-    write!(f, "the booking of carrier {FIRST} would be gone.\n  ")?;
-    f.write_str(
-        "Card 1 had no majority and held it back: the load would be lost to the carrier, not sold twice",
-    )
-}
-
-fn write_twice<W: fmt::Write>(f: &mut fmt::Formatter<W>, held: Option<u16>) -> fmt::Result {
-    match held {
-        Some(carrier) => write!(
-            f,
-            ".\n  The other cards gave it to carrier {carrier}: two trucks, one load"
-        ),
-        None => f.write_str(", and the other cards would not know"),
-    }
-}
-
-fn write_leaders<W: fmt::Write>(f: &mut fmt::Formatter<W>, last: u8) -> fmt::Result {
-    let leaders = last.saturating_sub(1);
-    write!(
-        f,
-        "each of cards 2 to {last}, which all stood, could have led on its own vote,\n  "
-    )?;
-    write!(
-        f,
-        "and given the load to a truck of its own: {leaders} trucks, one load"
-    )
 }

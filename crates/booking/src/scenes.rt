@@ -1,9 +1,9 @@
 // The parts of the story: the same phases for every size and every way in which the leader fails.
 use crate::boards::LOAD;
 use crate::steps::{Deed, Hope, Parcel, Span, Step};
-use board::{Act, BoardPayload};
+use board::{Act, Board};
 use machines::Machine;
-use protocol::{Choice, Intake, is_majority};
+use protocol::{Answer, Choice, Intake, is_majority};
 use refusals::Refusal;
 use std::fmt;
 
@@ -36,21 +36,15 @@ pub enum Telling {
 }
 
 fn booking_for(carrier: u16) -> Deed {
-    match <board::Board as Machine>::make((LOAD as u64, Act::Book, carrier as u64)) {
-        Ok(payload) => Deed::Book(payload),
-        Err(_) => Deed::Book(BoardPayload::Blank),
-    }
+    let booking = (LOAD as u64, Act::Book, carrier as u64);
+    Deed::Book(<Board as Machine>::make(booking).ok().flatten())
 }
 
 impl Scene {
-    // The card that has the first booking in its log when the leader is gone, if any.
-    fn holders(self) -> Span {
-        Span::one(2).only_if(self.reach == Reach::OneCard)
-    }
-
-    // The card to which the first booking is under way when it votes, if any.
-    fn late(self) -> Span {
-        Span::one(2).only_if(self.reach == Reach::TooLate)
+    // The card that the first booking reaches so, if this is how it goes: by OneCard it has the booking in its log
+    // when the leader is gone, by TooLate the booking is under way to it when it votes.
+    fn reached(self, reach: Reach) -> Option<Span> {
+        (self.reach == reach).then_some(Span::one(2))
     }
 
     // Who leads in the end: the card that holds the booking, otherwise the last, which stands first.
@@ -87,73 +81,85 @@ impl Scene {
         let lead = Span::one(1);
         let rest = Span::new(2, self.cards);
         [
-            Step::new(lead, Deed::Stand, Hope::Granted),
-            Step::new(rest, Deed::Hear(1), Hope::Chose(Choice::Joined)),
-            Step::new(rest, Deed::VoteTo(1), Hope::Granted),
-            Step::new(lead, Deed::CountVotes, Hope::Granted),
+            Step::new(lead, Deed::Stand, None),
+            Step::new(rest, Deed::Hear(1), Some(Ok(Answer::Chose(Choice::Joined)))),
+            Step::new(rest, Deed::VoteTo(1), None),
+            Step::new(lead, Deed::CountVotes, None),
             Step::new(
                 rest,
                 Deed::HandedBy(1, Parcel::Log),
-                Hope::Took(Intake::Installed),
+                Some(Ok(Answer::Took(Intake::Installed))),
             ),
-            Step::new(lead, Deed::Confirm, Hope::Counted(0)),
+            Step::new(lead, Deed::Confirm, Some(Ok(Answer::Count(0)))),
         ]
     }
 
     // The first carrier books, and the leader gets as far as the scene says.
-    pub(crate) fn first_booking(self) -> [Step; 5] {
+    pub(crate) fn first_booking(self) -> [Option<Step>; 5] {
         let lead = Span::one(1);
-        let dies = lead.only_if(self.late().is_empty());
+        let handed = Deed::HandedBy(1, Parcel::Entry);
+        let appended = Some(Ok(Answer::Took(Intake::Appended)));
+        let dies = (self.reach != Reach::TooLate).then_some(lead);
         [
-            Step::new(lead, booking_for(FIRST), Hope::Granted),
-            Step::new(
-                self.holders(),
-                Deed::HandedBy(1, Parcel::Entry),
-                Hope::Took(Intake::Appended),
-            ),
-            Step::new(self.late(), Deed::SentBy(1), Hope::Counted(1)),
-            Step::new(dies, Deed::Confirm, self.first_confirmed()),
-            Step::new(dies, Deed::Stop, Hope::Granted),
+            Some(Step::new(lead, booking_for(FIRST), None)),
+            self.reached(Reach::OneCard)
+                .map(|holder| Step::new(holder, handed, appended)),
+            self.reached(Reach::TooLate).map(|late| Step::new(
+                late,
+                Deed::SentBy(1),
+                Some(Ok(Answer::Count(1))),
+            )),
+            dies.map(|card| Step::new(card, Deed::Confirm, self.first_confirmed())),
+            dies.map(|card| Step::new(card, Deed::Stop, None)),
         ]
     }
 
     // The leader may confirm once a majority holds the booking, itself counted.
     fn first_confirmed(self) -> Hope {
-        let holders = if self.holders().is_empty() { 1 } else { 2 };
+        let holders = if self.reach == Reach::OneCard { 2 } else { 1 };
         if is_majority(holders, self.cards) {
-            Hope::Counted(1)
+            Some(Ok(Answer::Count(1)))
         } else {
-            Hope::Refused(Refusal::NothingDue)
+            Some(Err(Refusal::NothingDue))
         }
     }
 
     // The last card stands first, the others stand and choose.
-    pub(crate) fn choosing(self) -> [Step; 4] {
+    pub(crate) fn choosing(self) -> [Option<Step>; 4] {
+        let hear = Deed::Hear(self.cards);
         let middle = self.middle();
-        let holders = self.holders();
-        let rest = Span::new(if holders.is_empty() { 2 } else { 3 }, middle.last);
+        let joining = self
+            .reached(Reach::OneCard)
+            .map_or(Some(middle), |holder| middle.above(holder.last));
         [
-            Step::new(Span::one(self.cards), Deed::Stand, Hope::Granted),
-            Step::new(middle, Deed::Stand, Hope::Granted),
-            Step::new(holders, Deed::Hear(self.cards), Hope::Chose(Choice::Stood)),
-            Step::new(rest, Deed::Hear(self.cards), Hope::Chose(Choice::Joined)),
+            Some(Step::new(Span::one(self.cards), Deed::Stand, None)),
+            Some(Step::new(middle, Deed::Stand, None)),
+            self.reached(Reach::OneCard).map(|holder| Step::new(
+                holder,
+                hear,
+                Some(Ok(Answer::Chose(Choice::Stood))),
+            )),
+            joining.map(|rest| Step::new(rest, hear, Some(Ok(Answer::Chose(Choice::Joined))))),
         ]
     }
 
     // The old leader's booking arrives after the choice; or the card that holds more is heard. Then votes are counted.
-    pub(crate) fn counting(self) -> [Step; 6] {
-        let late = self.late();
-        let old = Span::one(1).only_if(!late.is_empty());
+    pub(crate) fn counting(self) -> [Option<Step>; 6] {
         let leader = self.leader();
         let rest = self.followers();
-        let joining = rest.only_if(!self.holders().is_empty());
+        let passed = Some(Ok(Answer::Took(Intake::PassedOver)));
+        let undue = Some(Err(Refusal::NothingDue));
+        let joined = Some(Ok(Answer::Chose(Choice::Joined)));
+        let old = self.reached(Reach::TooLate).map(|_| Span::one(1));
         [
-            Step::new(late, Deed::Reads(1), Hope::Took(Intake::PassedOver)),
-            Step::new(old, Deed::Confirm, Hope::Refused(Refusal::NothingDue)),
-            Step::new(old, Deed::Stop, Hope::Granted),
-            Step::new(joining, Deed::Hear(leader), Hope::Chose(Choice::Joined)),
-            Step::new(rest, Deed::VoteTo(leader), Hope::Granted),
-            Step::new(Span::one(leader), Deed::CountVotes, Hope::Granted),
+            self.reached(Reach::TooLate)
+                .map(|late| Step::new(late, Deed::Reads(1), passed)),
+            old.map(|card| Step::new(card, Deed::Confirm, undue)),
+            old.map(|card| Step::new(card, Deed::Stop, None)),
+            self.reached(Reach::OneCard)
+                .map(|_| Step::new(rest, Deed::Hear(leader), joined)),
+            Some(Step::new(rest, Deed::VoteTo(leader), None)),
+            Some(Step::new(Span::one(leader), Deed::CountVotes, None)),
         ]
     }
 
@@ -162,23 +168,27 @@ impl Scene {
         let leader = self.leader();
         let handed = Deed::HandedBy(leader, Parcel::Log);
         [
-            Step::new(self.followers(), handed, Hope::Took(Intake::Installed)),
+            Step::new(
+                self.followers(),
+                handed,
+                Some(Ok(Answer::Took(Intake::Installed))),
+            ),
             Step::new(
                 Span::one(leader),
                 Deed::Confirm,
-                Hope::Counted(self.inherited()),
+                Some(Ok(Answer::Count(self.inherited()))),
             ),
         ]
     }
 
     // Entries of earlier terms that the new leader has in its log.
     fn inherited(self) -> u32 {
-        if self.holders().is_empty() { 0 } else { 1 }
+        if self.reach == Reach::OneCard { 1 } else { 0 }
     }
 
     // Another carrier asks for the same load.
-    pub(crate) fn second_booking(self) -> [Step; 1] {
-        [Step::new(Span::one(self.leader()), booking_for(SECOND), Hope::Granted)]
+    pub(crate) fn second_booking(self) -> Step {
+        Step::new(Span::one(self.leader()), booking_for(SECOND), None)
     }
 
     // All running cards confirm it.
@@ -187,12 +197,12 @@ impl Scene {
         let rest = self.followers();
         let handed = Deed::HandedBy(leader, Parcel::Entry);
         [
-            Step::new(rest, handed, Hope::Took(Intake::Appended)),
-            Step::new(Span::one(leader), Deed::Confirm, Hope::Counted(1)),
+            Step::new(rest, handed, Some(Ok(Answer::Took(Intake::Appended)))),
+            Step::new(Span::one(leader), Deed::Confirm, Some(Ok(Answer::Count(1)))),
             Step::new(
                 rest,
                 Deed::Follow(leader),
-                Hope::Counted(self.inherited().saturating_add(1)),
+                Some(Ok(Answer::Count(self.inherited().saturating_add(1)))),
             ),
         ]
     }

@@ -1,10 +1,9 @@
 // What a story is made of: who does what, and what is expected of it.
 use board::BoardPayload;
 use play::Reply;
-use protocol::{Answer, Choice, Intake};
-use refusals::Refusal;
+use std::ops::RangeInclusive;
 
-// Cards in a row, from the first to the last; none where the last is below the first.
+// Cards in a row, from the first to the last.
 #[derive(Clone, Copy)]
 pub struct Span {
     pub first: u8,
@@ -20,12 +19,13 @@ impl Span {
         Span::new(card, card)
     }
 
-    pub(crate) fn only_if(self, wanted: bool) -> Span {
-        if wanted { self } else { Span::new(1, 0) }
+    // Those of the cards whose numbers are higher, if there are any.
+    pub(crate) fn above(self, card: u8) -> Option<Span> {
+        (card < self.last).then_some(Span::new(card.saturating_add(1), self.last))
     }
 
-    pub(crate) fn is_empty(self) -> bool {
-        self.last < self.first
+    pub(crate) fn numbers(self) -> RangeInclusive<u8> {
+        self.first..=self.last
     }
 }
 
@@ -57,27 +57,8 @@ pub enum Deed {
     Stop,
 }
 
-#[derive(Clone, Copy)]
-pub enum Hope {
-    Granted,
-    Refused(Refusal),
-    Chose(Choice),
-    Took(Intake),
-    Counted(u32),
-}
-
-impl Hope {
-    pub(crate) fn is_met(self, reply: Reply) -> bool {
-        match (self, reply) {
-            (Hope::Granted, Ok(_)) => true,
-            (Hope::Refused(hoped), Err(refusal)) => hoped == refusal,
-            (Hope::Chose(hoped), Ok(Answer::Chose(choice))) => hoped == choice,
-            (Hope::Took(hoped), Ok(Answer::Took(intake))) => hoped == intake,
-            (Hope::Counted(hoped), Ok(Answer::Count(count))) => hoped == count,
-            _ => false,
-        }
-    }
-}
+// The reply that is expected; None where any will do that is no refusal.
+pub type Hope = Option<Reply>;
 
 #[derive(Clone, Copy)]
 pub struct Step {
@@ -89,5 +70,9 @@ pub struct Step {
 impl Step {
     pub(crate) fn new(cards: Span, deed: Deed, hope: Hope) -> Step {
         Step { cards, deed, hope }
+    }
+
+    pub(crate) fn is_met_by(self, reply: Reply) -> bool {
+        self.hope.map_or(reply.is_ok(), |wanted| reply == wanted)
     }
 }

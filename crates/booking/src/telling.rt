@@ -3,15 +3,16 @@ use crate::boards::Holding;
 use crate::rules::Moral;
 use crate::scenes::{Scene, Telling};
 use crate::steps::Step;
-use crate::table::Table;
+use crate::table::{Score, Table};
 use backplane::Backplane;
+use board::Board;
 use frames::Entry;
 use frames::slot::SLOT;
 use machines::Machine;
 use rack::Rack;
 use refusals::Refusal;
 use ring_table::Shape;
-use rings::{Rings, shape_for};
+use rings::Rings;
 use std::io;
 
 // Places of a log, and frames that a lane holds.
@@ -19,59 +20,33 @@ const PLACES: usize = 4;
 
 const ROOM: usize = 2;
 
-// Calls made so far, and those answered otherwise than expected.
-#[derive(Clone, Copy)]
-pub struct Score {
-    pub calls: u64,
-    pub odd: u64,
-}
-
 // Plays a scene on a rack of its own, over rings in bytes of its own.
-pub(crate) fn run(rt: &HostRuntime, scene: Scene, score: Score) -> io::Result<Score> {
-    let len = buffer_len(scene.cards);
-    let mut bytes = vec![in rt.alloc(); 0u8; len]?;
-    match shape_for(scene.cards, ROOM, len) {
+pub(crate) fn run(rt: &HostRuntime, scene: Scene) -> io::Result<Score> {
+    match Shape::of(scene.cards, ROOM) {
         Ok(shape) => {
-            let mut rings = Rings::over(bytes.as_mut_slice(), shape);
-            run_on(rt, scene, score, &mut rings)
+            let mut bytes = vec![in rt.alloc(); 0u8; shape.slots() * SLOT]?;
+            run_on(rt, scene, &mut Rings::over(bytes.as_mut_slice(), shape))
         }
-        Err(refusal) => not_opened(rt, refusal, score),
+        Err(refusal) => not_opened(rt, refusal),
     }
 }
 
-// The bytes to lend; none for sizes that are refused.
-fn buffer_len(cards: u8) -> usize {
-    match Shape::of(cards, ROOM) {
-        Ok(shape) => shape.slots() * SLOT,
-        Err(_) => 0,
-    }
-}
-
-fn not_opened(rt: &HostRuntime, refusal: Refusal, score: Score) -> io::Result<Score> {
+fn not_opened(rt: &HostRuntime, refusal: Refusal) -> io::Result<Score> {
     let number = refusal.number();
     println!(rt; "  The rack was not opened, refused by {number}.")?;
-    Ok(Score {
-        calls: score.calls,
-        odd: score.odd.saturating_add(1),
-    })
+    Ok(Score { calls: 0, odd: 1 })
 }
 
-fn run_on<B: Backplane>(
-    rt: &HostRuntime,
-    scene: Scene,
-    score: Score,
-    backplane: &mut B,
-) -> io::Result<Score> {
-    let mut boards = Vec::new(rt.alloc());
-    for _card in 0..scene.cards {
-        boards.push(<board::Board as Machine>::start())?;
-    }
+fn run_on<B: Backplane>(rt: &HostRuntime, scene: Scene, backplane: &mut B) -> io::Result<Score> {
+    let mut boards: Vec<Board> = (0..scene.cards)
+        .map(|_| <Board as Machine>::start())
+        .collect(rt.alloc())?;
     let blank = match Entry::new((0, 1, 1), 0, (0, 0, 0)) {
         Ok(entry) => entry,
-        Err(refusal) => return not_opened(rt, refusal, score),
+        Err(refusal) => return not_opened(rt, refusal),
     };
     let entries = vec![in rt.alloc(); blank; scene.cards as usize * PLACES]?;
-    let opened = Rack::open::<B, board::Board>(
+    let opened = Rack::open::<B, Board>(
         scene.cards,
         PLACES,
         entries.as_slice(),
@@ -80,178 +55,150 @@ fn run_on<B: Backplane>(
     );
     match opened {
         Ok(rack) => {
-            let table = Table {
+            let mut table = Table {
+                rt,
+                backplane,
                 rack,
                 entries,
                 boards,
                 cards: scene.cards,
-                calls: score.calls,
-                odd: score.odd,
+                score: Score { calls: 0, odd: 0 },
             };
-            run_table(rt, table, backplane, scene)
+            table.tell_scene(scene)?;
+            Ok(table.score)
         }
-        Err(fault) => not_opened(rt, fault.refusal(), score),
+        Err(fault) => not_opened(rt, fault.refusal()),
     }
 }
 
-fn run_table<B: Backplane>(
-    rt: &HostRuntime,
-    mut table: Table,
-    backplane: &mut B,
-    scene: Scene,
-) -> io::Result<Score> {
-    let before = table.odd;
-    let moral = tell_scene(rt, &mut table, backplane, scene)?;
-    if !tell_agreement(rt, &table, scene)? {
-        table.odd = table.odd.saturating_add(1);
+impl<B: Backplane> Table<'_, B> {
+    fn tell_scene(&mut self, scene: Scene) -> io::Result<()> {
+        let rt = self.rt;
+        println!(rt; "{scene}")?;
+        let begun = self.tell_failure(scene)?;
+        self.tell_rest(scene)?;
+        if !self.tell_agreement(scene)? {
+            self.score.odd = self.score.odd.saturating_add(1);
+        }
+        self.tell_rule(Moral {
+            scene,
+            begun,
+            promised: self.holder(1),
+            held: self.holder(scene.leader()),
+        })
     }
-    tell_rule(rt, moral, table.odd == before)?;
-    Ok(Score {
-        calls: table.calls,
-        odd: table.odd,
-    })
-}
 
-fn tell_scene<B: Backplane>(
-    rt: &HostRuntime,
-    table: &mut Table,
-    backplane: &mut B,
-    scene: Scene,
-) -> io::Result<Moral> {
-    let known = scene.telling != Telling::Full;
-    println!(rt; "{scene}")?;
-    tell_title(rt, "Card 1 is to lead.", known)?;
-    tell_routine(
-        rt,
-        table,
-        backplane,
-        "Card 1 is to lead, as in part 1",
-        &scene.opening(),
-        known,
-    )?;
-    tell_title(rt, "A carrier books.", known)?;
-    tell(rt, table, backplane, &scene.first_booking())?;
-    table.show_boards(rt)?;
-    let begun = table.logged(scene.cards);
-    tell_title(rt, "The others are to elect a leader.", known)?;
-    tell(rt, table, backplane, &scene.choosing())?;
-    tell(rt, table, backplane, &scene.counting())?;
-    tell_rest(rt, table, backplane, scene)?;
-    Ok(Moral {
-        scene,
-        begun,
-        promised: table.holder(1),
-        held: table.holder(scene.leader()),
-    })
-}
-
-// From the new leader's first act to the end.
-fn tell_rest<B: Backplane>(
-    rt: &HostRuntime,
-    table: &mut Table,
-    backplane: &mut B,
-    scene: Scene,
-) -> io::Result<()> {
-    let known = scene.telling != Telling::Full;
-    let brief = scene.telling == Telling::Brief;
-    tell_title(rt, "The new leader is to take over.", known)?;
-    tell_routine(
-        rt,
-        table,
-        backplane,
-        "The new leader is to take over",
-        &scene.takeover(),
-        brief,
-    )?;
-    if !brief {
-        table.show_boards(rt)?;
+    // Until the old leader is gone and the votes are counted; with how many entries the last card stood.
+    fn tell_failure(&mut self, scene: Scene) -> io::Result<usize> {
+        self.tell_title(scene, "Card 1 is to lead.")?;
+        let opening = scene.opening();
+        match scene.telling {
+            Telling::Full => self.tell(&opening)?,
+            Telling::Known | Telling::Brief => {
+                self.sum_up("Card 1 is to lead, as in part 1", &opening)?
+            }
+        }
+        self.tell_title(scene, "A carrier books.")?;
+        self.tell_some(&scene.first_booking())?;
+        self.show_boards()?;
+        let begun = self.logged(scene.cards);
+        self.tell_title(scene, "The others are to elect a leader.")?;
+        self.tell_some(&scene.choosing())?;
+        self.tell_some(&scene.counting())?;
+        Ok(begun)
     }
-    tell_title(rt, "Another carrier asks for the same load.", known)?;
-    tell(rt, table, backplane, &scene.second_booking())?;
-    tell_routine(
-        rt,
-        table,
-        backplane,
-        "All running cards are to confirm",
-        &scene.spreading(),
-        brief,
-    )?;
-    table.show_boards(rt)
-}
 
-fn tell_title(rt: &HostRuntime, title: &str, brief: bool) -> io::Result<()> {
-    if brief {
-        return Ok(());
+    // From the new leader's first act to the end.
+    fn tell_rest(&mut self, scene: Scene) -> io::Result<()> {
+        let takeover = scene.takeover();
+        let spreading = scene.spreading();
+        self.tell_title(scene, "The new leader is to take over.")?;
+        match scene.telling {
+            Telling::Full | Telling::Known => {
+                self.tell(&takeover)?;
+                self.show_boards()?;
+            }
+            Telling::Brief => self.sum_up("The new leader is to take over", &takeover)?,
+        }
+        self.tell_title(scene, "Another carrier asks for the same load.")?;
+        self.tell(&[scene.second_booking()])?;
+        match scene.telling {
+            Telling::Full | Telling::Known => self.tell(&spreading)?,
+            Telling::Brief => self.sum_up("All running cards are to confirm", &spreading)?,
+        }
+        self.show_boards()
     }
-    println!(rt; " {title}")
-}
 
-// A line for each step that concerns a card.
-fn tell<B: Backplane>(
-    rt: &HostRuntime,
-    table: &mut Table,
-    backplane: &mut B,
-    steps: &[Step],
-) -> io::Result<()> {
-    for step in steps {
-        if !step.cards.is_empty() {
-            let outcome = table.perform(rt, backplane, *step)?;
+    // Where all is told.
+    fn tell_title(&self, scene: Scene, title: &str) -> io::Result<()> {
+        let rt = self.rt;
+        match scene.telling {
+            Telling::Full => println!(rt; " {title}"),
+            Telling::Known | Telling::Brief => Ok(()),
+        }
+    }
+
+    // A line for each step.
+    fn tell(&mut self, steps: &[Step]) -> io::Result<()> {
+        let rt = self.rt;
+        for step in steps {
+            let outcome = self.perform(*step)?;
             println!(rt; "  {outcome}")?;
         }
+        Ok(())
     }
-    Ok(())
-}
 
-// The same; in brief only what was not expected, and how many calls it took.
-fn tell_routine<B: Backplane>(
-    rt: &HostRuntime,
-    table: &mut Table,
-    backplane: &mut B,
-    title: &str,
-    steps: &[Step],
-    brief: bool,
-) -> io::Result<()> {
-    if !brief {
-        return tell(rt, table, backplane, steps);
+    // The same, of the steps that the scene has.
+    fn tell_some(&mut self, steps: &[Option<Step>]) -> io::Result<()> {
+        for step in steps.iter().flatten() {
+            self.tell(&[*step])?;
+        }
+        Ok(())
     }
-    let before = table.calls;
-    let odd = table.odd;
-    for step in steps {
-        let outcome = table.perform(rt, backplane, *step)?;
-        if outcome.odd {
-            println!(rt; "  {outcome}")?;
+
+    // Only what was not expected, and how many calls it took.
+    fn sum_up(&mut self, title: &str, steps: &[Step]) -> io::Result<()> {
+        let rt = self.rt;
+        let before = self.score;
+        for step in steps {
+            let outcome = self.perform(*step)?;
+            if outcome.odd() > 0 {
+                println!(rt; "  {outcome}")?;
+            }
+        }
+        let calls = self.score.calls.saturating_sub(before.calls);
+        let odd = self.score.odd.saturating_sub(before.odd);
+        if odd == 0 {
+            println!(rt; "  {title}: {calls} calls, all answered as expected.")
+        } else {
+            println!(rt; "  {title}: {calls} calls, {odd} ANSWERS NOT EXPECTED.")
         }
     }
-    let calls = table.calls.saturating_sub(before);
-    let other = table.odd.saturating_sub(odd);
-    if other == 0 {
-        println!(rt; "  {title}: {calls} calls, all answered as expected.")
-    } else {
-        println!(rt; "  {title}: {calls} calls, {other} ANSWERS NOT EXPECTED.")
-    }
-}
 
-// Whether the running cards agree on the holder that the story expects.
-fn tell_agreement(rt: &HostRuntime, table: &Table, scene: Scene) -> io::Result<bool> {
-    let Some(held) = table.agreed() else {
-        println!(rt; " THE RUNNING CARDS DO NOT AGREE. THE STORY DOES NOT EXPECT THAT.")?;
-        return Ok(false);
-    };
-    let holding = Holding(held);
-    println!(rt; " All running cards agree: {holding}.")?;
-    if held != Some(scene.winner()) {
-        println!(rt; " THE STORY EXPECTS ANOTHER HOLDER.")?;
-        return Ok(false);
+    // Whether the running cards agree on the holder that the story expects.
+    fn tell_agreement(&self, scene: Scene) -> io::Result<bool> {
+        let rt = self.rt;
+        let Some(held) = self.agreed() else {
+            println!(rt; " THE RUNNING CARDS DO NOT AGREE. THE STORY DOES NOT EXPECT THAT.")?;
+            return Ok(false);
+        };
+        let holding = Holding(held);
+        println!(rt; " All running cards agree: {holding}.")?;
+        if held != Some(scene.winner()) {
+            println!(rt; " THE STORY EXPECTS ANOTHER HOLDER.")?;
+            return Ok(false);
+        }
+        Ok(true)
     }
-    Ok(true)
-}
 
-// The rule to which the scene owes its end, unless it went otherwise than expected.
-fn tell_rule(rt: &HostRuntime, moral: Moral, expected: bool) -> io::Result<()> {
-    if !expected {
-        return println!(rt; " THIS PART DID NOT GO AS THE STORY EXPECTS, AND SHOWS NO RULE.");
+    // The rule to which the scene owes its end, unless it went otherwise than expected.
+    fn tell_rule(&self, moral: Moral) -> io::Result<()> {
+        let rt = self.rt;
+        if self.score.odd > 0 {
+            return println!(rt; " THIS PART DID NOT GO AS THE STORY EXPECTS, AND SHOWS NO RULE.");
+        }
+        let rule = moral.rule();
+        println!(rt; " The rule that mattered: {rule}.")?;
+        println!(rt; " Without it, {moral}.")
     }
-    let rule = moral.rule();
-    println!(rt; " The rule that mattered: {rule}.")?;
-    println!(rt; " Without it, {moral}.")
 }

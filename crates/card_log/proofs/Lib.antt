@@ -1,2 +1,1 @@
-pub mod Booked
 pub mod Due

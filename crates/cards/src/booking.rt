@@ -8,11 +8,13 @@ ghost use Rattle.cards.specs.Parts.{of_cards, submit_part};
 ghost use Rattle.cards.specs.Sizes.{card_count};
 
 use crate::fault::CardFault;
-use crate::size::RackSize;
+use crate::member::Member;
 use marks::rows::count_between;
 use marks::{Header, LAST_COUNT};
 use protocol::{Card, Role, is_majority};
 
+// Kept: a call's checks stand in it one by one, in the order of their refusals' numbers, as its definition lists them. A
+// function for each would take the order out of sight.
 // The header of the next entry, which the card accepts.
 pub fn place(card: &mut Card, used: usize, places: usize, tally: u64) -> Result<Header, CardFault>
     ensures { (replied Placed result, card.new) ≡ submit_part places used tally card.old }
@@ -35,29 +37,31 @@ pub fn place(card: &mut Card, used: usize, places: usize, tally: u64) -> Result<
     Ok(header)
 }
 
-// How many accept rows of the current epoch lie at or above next.
-fn accepts_reached(card: &Card, n: RackSize, i: u8) -> usize
-    ensures { result ≡ reached card.now (accept_rows (card_count n) i card.now.accepted card.now.peers) }
-{
-    let rows = card.peers.accept_rows(i, card.accepted);
-    let (round, leader) = card.current;
-    let last = (round, leader, u32::MAX);
-    match n {
-        RackSize::Three => count_between(card.next, last, &rows[0..3]),
-        RackSize::Five => count_between(card.next, last, &rows[0..5]),
-        RackSize::Seven => count_between(card.next, last, &rows[0..7]),
+impl Member {
+    // How many accept rows of the current epoch lie at or above next.
+    fn accepts_reached(self, card: &Card) -> usize
+        ensures { result ≡ reached card.now (accept_rows (card_count self.size) self.number card.now.accepted card.now.peers) }
+    {
+        let rows = card.peers.known_rows(self.number, card.accepted);
+        count_reached(card, &rows[..self.size.cards() as usize])
+    }
+
+    // Whether next may be delivered: a leader goes by the accept rows, a follower by its leader's commit row.
+    pub fn is_supported(self, card: &Card) -> bool
+        ensures { result ≡ supported (of_cards self.size) self.number card.now }
+    {
+        if card.role == Role::Leader {
+            is_majority(self.accepts_reached(card), self.size.cards())
+        } else {
+            count_reached(card, &[card.peers.row(card.current.1).commit]) == 1
+        }
     }
 }
 
-// Whether next may be delivered: a leader goes by the accept rows, a follower by its leader's commit row.
-pub fn is_supported(card: &Card, n: RackSize, i: u8) -> bool
-    ensures { result ≡ supported (of_cards n) i card.now }
+// How many of some rows lie in the current epoch, at or above next.
+fn count_reached(card: &Card, rows: &[Header]) -> usize
+    ensures { result ≡ reached card.now rows.now }
 {
-    if card.role == Role::Leader {
-        is_majority(accepts_reached(card, n, i), n.cards())
-    } else {
-        let (round, leader) = card.current;
-        let row = [card.peers.row(leader).commit];
-        count_between(card.next, (round, leader, u32::MAX), &row) == 1
-    }
+    let (round, leader) = card.current;
+    count_between(card.next, (round, leader, u32::MAX), rows)
 }

@@ -18,20 +18,22 @@ fn vote_frame(vote: Vote) -> Result<Frame, Refusal>
     ensures { result ≡ frame_from (vote_frame vote) }
 {
     let ((round, leader), header) = vote;
-    Frame::new(
-        5,
+    Frame::of(
+        Kind::VoteRow,
         (round, leader, 0),
         (header.0 as u64, header.1 as u64, header.2 as u64, 0),
     )
 }
 
+// Kept: a number for a kind. It is also the number of the lane, any number may be asked for, and `Kind::try_from` would take
+// 1 to 3 as well and refuse the rest by 8, where the rule asks for other refusals.
 fn row_frame(card: &Card, kind: u8) -> Result<Frame, Refusal>
     ensures { result ≡ frame_from (own_row card.now kind) }
 {
     if kind == 5 {
         vote_frame(card.vote)
     } else if kind == 4 {
-        Frame::new(4, card.accepted, (0, 0, 0, 0))
+        Frame::of(Kind::AcceptRow, card.accepted, (0, 0, 0, 0))
     } else {
         Frame::new(kind, card.committed, (0, 0, 0, 0))
     }
@@ -55,26 +57,22 @@ pub fn own_row(card: &Card, kind: u8) -> Result<Frame, CardFault>
     if is_undue(card, kind) {
         return Err(CardFault::NothingDue);
     }
-    match row_frame(card, kind) {
-        Ok(frame) => Ok(frame),
-        Err(_) => Err(CardFault::Malformed),
-    }
+    row_frame(card, kind).map_err(|_| CardFault::Malformed)
 }
 
 // Stores a peer's row in that peer's copy.
 pub fn store_row(card: &mut Card, peer: u8, frame: Frame)
     ensures { card.new ≡ with_peers (stored card.old.peers peer (frame_fields frame)) card.old }
 {
-    let header = (frame.round, frame.leader, frame.count);
     match frame.kind {
-        Kind::AcceptRow => card.peers.store_accept(peer, header),
+        Kind::AcceptRow => card.peers.store_accept(peer, frame.header()),
         Kind::VoteRow => card.peers.store_vote(
             peer,
             (
-                (frame.round, frame.leader),
+                frame.epoch(),
                 (frame.w1 as u32, frame.w2 as u8, frame.w3 as u32),
             ),
         ),
-        _ => card.peers.store_commit(peer, header),
+        _ => card.peers.store_commit(peer, frame.header()),
     }
 }

@@ -6,7 +6,7 @@ ghost use Rattle.cards.specs.declared.fault.CardFault.TheVariants.{Lane};
 use backplane::LaneFault;
 use refusals::Refusal;
 
-#[derive(Clone, Copy, Debug)]
+#[derive(Clone, Copy, PartialEq, Eq, Debug)]
 pub enum CardFault {
     Lane(LaneFault),
     Stopped,

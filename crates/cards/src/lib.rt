@@ -4,9 +4,11 @@
 pub mod booking;
 pub mod exchange;
 pub mod fault;
+pub mod member;
 pub mod rows;
 pub mod size;
 pub mod voting;
 
 pub use fault::CardFault;
+pub use member::Member;
 pub use size::RackSize;

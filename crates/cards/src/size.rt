@@ -11,11 +11,13 @@ pub enum RackSize {
     Seven = 7,
 }
 
-impl RackSize {
-    // 2 for any other number.
-    pub fn new(cards: u8) -> Result<RackSize, Refusal>
-        ensures { result ≡ size_of cards }
-    {
+// 2 for any other number.
+impl TryFrom<u8> for RackSize {
+    type Error = Refusal;
+
+    ghost try_from_gives = { λ n r. r ≡ size_of n };
+
+    fn try_from(cards: u8) -> Result<RackSize, Refusal> {
         match cards {
             3 => Ok(RackSize::Three),
             5 => Ok(RackSize::Five),
@@ -23,7 +25,9 @@ impl RackSize {
             _ => Err(Refusal::WrongSize),
         }
     }
+}
 
+impl RackSize {
     pub fn cards(self) -> u8
         ensures { result ≡ card_count self }
     {

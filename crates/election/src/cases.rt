@@ -3,87 +3,67 @@ use marks::{Epoch, Header, Vote, is_epoch, is_header};
 use numerals::number;
 use std::alloc::{AllocError, Global};
 
-#[derive(Clone, Copy)]
+#[derive(Drop)]
 pub struct Case {
     pub cards: u8,
     pub card: u8,
     pub newest: Epoch,
     pub accepted: Header,
-    pub votes: [Vote; 7],
+    // The card's own vote, and every card's.
+    pub own: Vote,
+    pub votes: Vec<Vote>,
 }
 
-const NO_VOTE: Vote = ((0, 0), (0, 0, 0));
-
+// None for a line that is no such case.
 pub(crate) fn read(heap: Global, line: &str) -> Result<Option<Case>, AllocError> {
-    let mut numbers = Vec::new(heap);
-    for word in line.split_whitespace() {
-        match number(word) {
-            Some(value) => numbers.push(value)?,
-            None => return Ok(None),
-        }
+    let Some(numbers): Option<Vec<i128>> = line.split_whitespace().map(number).collect(heap)? else {
+        return Ok(None);
+    };
+    let [cards, card, e1, e2, h1, h2, h3, rows @ ..] = numbers.as_slice() else {
+        return Ok(None);
+    };
+    let (Some(newest), Some(accepted)) = (epoch(*e1, *e2), header(*h1, *h2, *h3)) else {
+        return Ok(None);
+    };
+    let (rows, rest) = rows.as_chunks::<5>();
+    let Some(votes): Option<Vec<Vote>> = rows.iter().map(vote).collect(heap)? else {
+        return Ok(None);
+    };
+    let (Ok(cards), Ok(card)) = (u8::try_from(*cards), u8::try_from(*card)) else {
+        return Ok(None);
+    };
+    if !matches!(cards, 3 | 5 | 7) || votes.len() != cards as usize || !rest.is_empty() {
+        return Ok(None);
     }
-    Ok(case_of(numbers.as_slice()))
-}
-
-fn case_of(numbers: &[i128]) -> Option<Case> {
-    let cards = small(numbers, 0)?;
-    let card = small(numbers, 1)?;
-    if cards != 3 && cards != 5 && cards != 7 || card < 1 || cards < card {
-        return None;
-    }
-    if numbers.len() != 7 + 5 * cards as usize {
-        return None;
-    }
-    Some(Case {
+    let place = (card as usize).wrapping_sub(1);
+    let Some(own) = votes.get(place).copied() else {
+        return Ok(None);
+    };
+    Ok(Some(Case {
         cards,
         card,
-        newest: epoch(numbers, 2)?,
-        accepted: header(numbers, 4)?,
-        votes: [
-            vote(numbers, cards, 0)?,
-            vote(numbers, cards, 1)?,
-            vote(numbers, cards, 2)?,
-            vote(numbers, cards, 3)?,
-            vote(numbers, cards, 4)?,
-            vote(numbers, cards, 5)?,
-            vote(numbers, cards, 6)?,
-        ],
-    })
+        newest,
+        accepted,
+        own,
+        votes,
+    }))
 }
 
-// The vote of the card at an index; no vote past the last card.
-fn vote(numbers: &[i128], cards: u8, index: u8) -> Option<Vote> {
-    if cards <= index {
-        return Some(NO_VOTE);
-    }
-    let first = 7 + 5 * index as usize;
-    Some((epoch(numbers, first)?, header(numbers, first + 2)?))
+fn vote(row: &[i128; 5]) -> Option<Vote> {
+    let [e1, e2, h1, h2, h3] = *row;
+    Some((epoch(e1, e2)?, header(h1, h2, h3)?))
 }
 
-fn epoch(numbers: &[i128], at: usize) -> Option<Epoch> {
-    if 1000 < at {
-        return None;
-    }
-    let e = (wide(numbers, at)?, small(numbers, at + 1)?);
-    if is_epoch(e) { Some(e) } else { None }
+fn epoch(round: i128, leader: i128) -> Option<Epoch> {
+    let epoch = (u32::try_from(round).ok()?, u8::try_from(leader).ok()?);
+    is_epoch(epoch).then_some(epoch)
 }
 
-fn header(numbers: &[i128], at: usize) -> Option<Header> {
-    if 1000 < at {
-        return None;
-    }
-    let h = (
-        wide(numbers, at)?,
-        small(numbers, at + 1)?,
-        wide(numbers, at + 2)?,
+fn header(round: i128, leader: i128, count: i128) -> Option<Header> {
+    let header = (
+        u32::try_from(round).ok()?,
+        u8::try_from(leader).ok()?,
+        u32::try_from(count).ok()?,
     );
-    if is_header(h) { Some(h) } else { None }
-}
-
-fn small(numbers: &[i128], at: usize) -> Option<u8> {
-    u8::try_from(*numbers.get(at)?).ok()
-}
-
-fn wide(numbers: &[i128], at: usize) -> Option<u32> {
-    u32::try_from(*numbers.get(at)?).ok()
+    is_header(header).then_some(header)
 }

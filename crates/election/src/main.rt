@@ -10,6 +10,8 @@ use std::io::{BufRead, BufReader};
 
 fn main(rt: HostRuntime) -> io::Result<()> {
     let heap = rt.alloc();
+    // Kept: each desk's main has this loop. Each answers a line that is no text by its own reply type, and some of them on
+    // the heap; a crate for one function of three arms would be longer than the arms.
     for line in BufReader::new(heap, rt.stdin())?.lines(heap) {
         let case = match line {
             Ok(text) => read(heap, text.as_str())?,

@@ -1,26 +1,9 @@
 // How an election goes for a card, in words.
 use crate::cases::Case;
 use marks::rows::{count_between, largest};
-use marks::{Epoch, Header, Vote, least_epoch};
+use marks::{Vote, least_epoch};
 use protocol::{Choice, is_majority};
 use std::fmt;
-
-impl Case {
-    fn rows(&self) -> &[Vote] {
-        match self.cards {
-            3 => &self.votes[0..3],
-            5 => &self.votes[0..5],
-            _ => &self.votes[0..7],
-        }
-    }
-
-    fn own(&self) -> Vote {
-        match self.rows().get(self.card.saturating_sub(1) as usize) {
-            Some(vote) => *vote,
-            None => ((0, 0), (0, 0, 0)),
-        }
-    }
-}
 
 impl fmt::Display for Case {
     fn fmt<W: fmt::Write>(&self, f: &mut fmt::Formatter<W>) -> fmt::Result {
@@ -31,27 +14,23 @@ impl fmt::Display for Case {
             f,
             "card {card} of {cards}: new epoch {round}.{leader}, accepted {r}.{l}.{count}"
         )?;
-        let own = self.own();
-        let most = largest(own, self.rows());
-        show_vote(f, "own vote", own)?;
+        let most = largest(self.own, self.votes.as_slice());
+        show_vote(f, "own vote", self.own)?;
         show_vote(f, "largest vote", most)?;
-        show_choice(f, self, own, most)?;
-        show_count(f, self, own)
+        show_choice(f, self, most)?;
+        show_count(f, self)
     }
 }
 
+// Kept: functions of a formatter. They are parts of one `Display`, cut at what they say; a type for each would hold the
+// same arguments only to be shown once.
 fn show_vote<W: fmt::Write>(f: &mut fmt::Formatter<W>, name: &str, vote: Vote) -> fmt::Result {
     let ((round, leader), (r, l, count)) = vote;
     write!(f, "\n  {name}: {round}.{leader} with {r}.{l}.{count}")
 }
 
-fn show_choice<W: fmt::Write>(
-    f: &mut fmt::Formatter<W>,
-    case: &Case,
-    own: Vote,
-    most: Vote,
-) -> fmt::Result {
-    match Choice::of(case.accepted, own, most) {
+fn show_choice<W: fmt::Write>(f: &mut fmt::Formatter<W>, case: &Case, most: Vote) -> fmt::Result {
+    match Choice::of(case.accepted, case.own, most) {
         Choice::Kept => write!(f, "\n  elect answers 0: the largest vote is the card's own"),
         Choice::Joined => write!(
             f,
@@ -62,11 +41,7 @@ fn show_choice<W: fmt::Write>(
 }
 
 fn show_standing<W: fmt::Write>(f: &mut fmt::Formatter<W>, case: &Case, most: Vote) -> fmt::Result {
-    let above = if most.0 < case.newest {
-        case.newest
-    } else {
-        most.0
-    };
+    let above = most.0.max(case.newest);
     match least_epoch(case.card, above) {
         Ok((round, leader)) => {
             write!(
@@ -88,8 +63,9 @@ fn show_standing<W: fmt::Write>(f: &mut fmt::Formatter<W>, case: &Case, most: Vo
     }
 }
 
-fn show_count<W: fmt::Write>(f: &mut fmt::Formatter<W>, case: &Case, own: Vote) -> fmt::Result {
-    let count = count_between(own, own, case.rows());
+fn show_count<W: fmt::Write>(f: &mut fmt::Formatter<W>, case: &Case) -> fmt::Result {
+    let own = case.own;
+    let count = count_between(own, own, case.votes.as_slice());
     let cards = case.cards;
     if is_majority(count, cards) && own.0.1 == case.card {
         write!(

@@ -13,7 +13,7 @@ pub const SLOTS: usize = 288;
 pub struct FrameBox {
     table: RingTable,
     frames: [Frame; SLOTS],
-    ghost three: { table.cards ≡ 3 },
-    ghost eight: { table.room ≡ 8 },
+    ghost three: { table.shape.cards ≡ 3 },
+    ghost eight: { table.shape.room ≡ 8 },
     ghost long: { length frames ≡ 288 },
 }

@@ -8,24 +8,6 @@ use std::test::Fail;
 
 type Numbers = (u8, Header, FrameWords);
 
-fn numbers(frame: Frame) -> Numbers {
-    let Frame {
-        kind,
-        round,
-        leader,
-        count,
-        w1,
-        w2,
-        w3,
-        w4,
-    } = frame;
-    (kind.number(), (round, leader, count), (w1, w2, w3, w4))
-}
-
-fn outcome(frame: Result<Frame, Refusal>) -> Result<Numbers, Refusal> {
-    Ok(numbers(frame?))
-}
-
 const FRAMES: [Numbers; 8] = [
     (1, (0, 1, 1), (4, 2, 2147483148, 0)),
     (
@@ -53,10 +35,9 @@ fn written_slots_read_back(rt: HostRuntime) -> Result<(), Fail> {
             let mut bytes = [0xAAu8; 64];
             let frame = Frame::new(kind, header, words)?;
             assert_eq!(rt; write_slot(&mut bytes, start, frame), Ok(()));
-            assert_eq!(rt;
-                outcome(read_slot(&bytes, start)),
-                Ok((kind, header, words))
-            );
+            assert_eq!(rt; read_slot(&bytes, start), Ok(frame));
+            assert_eq!(rt; (frame.kind.number(), frame.header()), (kind, header));
+            assert_eq!(rt; (frame.w1, frame.w2, frame.w3, frame.w4), words);
             for (i, byte) in bytes.iter().enumerate() {
                 if i < start || start + 48 <= i {
                     assert_eq!(rt; *byte, 0xAA, "a byte beside the slot");
@@ -76,28 +57,29 @@ fn past_the_end(rt: HostRuntime) -> Result<(), Fail> {
             write_slot(&mut bytes, start, frame),
             Err(Refusal::WrongSize)
         );
-        assert_eq!(rt; outcome(read_slot(&bytes, start)), Err(Refusal::WrongSize));
+        assert_eq!(rt; read_slot(&bytes, start), Err(Refusal::WrongSize));
         for byte in bytes {
             assert_eq!(rt; byte, 0xAA, "nothing is written");
         }
     }
     let mut short = [0u8; 47];
     assert_eq!(rt; write_slot(&mut short, 0, frame), Err(Refusal::WrongSize));
-    assert_eq!(rt; outcome(read_slot(&short, 0)), Err(Refusal::WrongSize));
+    assert_eq!(rt; read_slot(&short, 0), Err(Refusal::WrongSize));
     Ok(())
 }
 
 #[test]
 fn one_bit_flipped(rt: HostRuntime) -> Result<(), Fail> {
     let mut whole = [0u8; 48];
-    write_slot(&mut whole, 0, Frame::new(4, (9, 4, 12), (0, 0, 0, 0))?)?;
+    let frame = Frame::new(4, (9, 4, 12), (0, 0, 0, 0))?;
+    write_slot(&mut whole, 0, frame)?;
     // A flipped bit is another frame's slot or no slot, and never this frame's.
     for i in 0..48usize {
         for mask in [1u8, 2, 4, 8, 16, 32, 64, 128] {
             let mut bytes = whole;
             bytes[i] ^= mask;
-            let read = outcome(read_slot(&bytes, 0));
-            assert_ne!(rt; read, Ok((4, (9, 4, 12), (0, 0, 0, 0))), "a flipped bit");
+            let read = read_slot(&bytes, 0);
+            assert_ne!(rt; read, Ok(frame), "a flipped bit");
             if i >= 12 {
                 assert_eq!(rt; read, Err(Refusal::Malformed), "the tail");
             }
@@ -110,19 +92,15 @@ fn one_bit_flipped(rt: HostRuntime) -> Result<(), Fail> {
 fn entries(rt: HostRuntime) {
     assert!(rt; Entry::new((0, 1, 1), 15, (1, 2, 3)).is_ok());
     assert!(rt; Entry::new((0, 7, 4294967294), 0, (0, 0, 0)).is_ok());
-    assert!(rt;
-        matches!(
-            Entry::new((0, 1, 1), 16, (0, 0, 0)),
-            Err(Refusal::OutOfRange)
-        )
+    assert_eq!(rt;
+        Entry::new((0, 1, 1), 16, (0, 0, 0)),
+        Err(Refusal::OutOfRange)
     );
-    assert!(rt;
-        matches!(
-            Entry::new((0, 0, 0), 16, (0, 0, 0)),
-            Err(Refusal::OutOfRange)
-        )
+    assert_eq!(rt;
+        Entry::new((0, 0, 0), 16, (0, 0, 0)),
+        Err(Refusal::OutOfRange)
     );
     for header in [(0, 1, 0), (0, 0, 1), (0, 8, 1), (1, 1, 4294967295)] {
-        assert!(rt; matches!(Entry::new(header, 3, (0, 0, 0)), Err(Refusal::Malformed)));
+        assert_eq!(rt; Entry::new(header, 3, (0, 0, 0)), Err(Refusal::Malformed));
     }
 }

@@ -1,11 +1,10 @@
 -- Numbers and their bytes, low byte first.
-use Rattle.std.proofs.Common.{◌≡◌, ℕ, zero, suc, ◌+◌, ◌-◌, ◌*◌, ◌/◌, ◌%◌, ◌^◌, ◌<◌, ◌≤◌, List, [], ◌∷◌, ◌++◌, length, get_or, take, drop, replicate, sym, refl, ap, ◌∙◌, pow-suc, arith, lit≤, length-drop}
-use native.Mathlib.Nat.{pow-zero, pow-succ', one-le-pow, mod-one, zero-mod, div-div-eq-div-mul}
-use lib.Arith.{mod-mul}
+use Rattle.std.proofs.Common.{◌≡◌, ℕ, zero, suc, ◌+◌, ◌-◌, ◌*◌, ◌/◌, ◌%◌, ◌^◌, ◌<◌, ◌≤◌, List, [], ◌∷◌, ◌++◌, length, get_or, take, drop, replicate, sym, refl, ap, ◌∙◌, arith, length-append, length-drop}
+use lib.ListN.{length-replicate}
+use native.Mathlib.Nat.{pow-zero, pow-succ', div-div-eq-div-mul}
 use lib.Lanes.{digits_l, number_l, Each1}
 use borrow.Rule.Slice.PartMut.{put_mid}
-use Rattle.std.proofs.lemmas.List.{drop-drop, drop_more, drop_all, take-take, take_rest, append-nil}
-use Rattle.std.proofs.lemmas.Simd.{Each1-chunk}
+use Rattle.std.proofs.lemmas.List.{drop-drop, drop_more, drop_all, take_rest, append-nil, take_all, drop-replicate}
 
 pub length_digits : (w v : ℕ) → length (digits_l 256 w v) ≡ w
 length_digits zero v = refl
@@ -59,18 +58,6 @@ eight_bytes v =
 pub put_at : (a n k : ℕ) (xs ys zs : List ℕ) → ys ≡ zs → n ≡ k → put_mid a n xs ys ≡ take a xs ++ (zs ++ drop (a + k) xs)
 put_at a n k xs ys zs same size = ap (λ l. take a xs ++ l) (λ i. same i ++ (ap (λ m. drop m (drop a xs)) size ∙ drop-drop k a xs) i)
 
--- the low bytes of a number
-pub number_take : (m : ℕ) (xs : List ℕ) → Each1 (λ x. x < 256) xs → number_l 256 xs % 256 ^ m ≡ number_l 256 (take m xs)
-number_take zero xs h = ap (λ n. number_l 256 xs % n) (pow-zero 256) ∙ mod-one (number_l 256 xs)
-number_take (suc m) [] h = zero-mod (256 ^ suc m)
-number_take (suc m) (x ∷ xs) h =
-    let low : (x + 256 * number_l 256 xs) % 256 ≡ x = omega (arith, h.0) in
-    let high : (x + 256 * number_l 256 xs) / 256 ≡ number_l 256 xs = omega (arith, h.0) in
-    ap (λ n. (x + 256 * number_l 256 xs) % n) (pow-suc 256 m)
-    ∙ mod-mul (x + 256 * number_l 256 xs) {m = 256 ^ m} {c = 256} (omega (arith, one-le-pow m 256 (lit≤ tt))) (omega arith)
-    ∙ (λ i. high i % 256 ^ m * 256 + low i)
-    ∙ omega (arith, number_take m xs h.1)
-
 -- eight bytes of a list, as `from_le_bytes` reads them
 pub load_eight : (bs : List ℕ) (at : ℕ) → at + 8 ≤ length bs → number_l 256 (take 8 (drop at bs)) ≡ get_or bs at 0 + get_or bs (at + 1) 0 * 256 + get_or bs (at + 2) 0 * 65536 + get_or bs (at + 3) 0 * 16777216 + get_or bs (at + 4) 0 * 4294967296 + get_or bs (at + 5) 0 * 1099511627776 + get_or bs (at + 6) 0 * 281474976710656 + get_or bs (at + 7) 0 * 72057594037927936
 load_eight bs at h = omega (arith, first, next 1 2 6 refl (omega arith), next 2 3 5 refl (omega arith), next 3 4 4 refl (omega arith), next 4 5 3 refl (omega arith), next 5 6 2 refl (omega arith), next 6 7 1 refl (omega arith), next 7 8 0 refl (omega arith))
@@ -83,11 +70,27 @@ load_eight bs at h = omega (arith, first, next 1 2 6 refl (omega arith), next 2 
         let further : at + k + 1 ≡ at + j = omega arith in
         ap (λ l. number_l 256 (take (suc n) l)) (drop_more bs (at + k) 0 (omega arith)) ∙ ap (λ m. get_or bs (at + k) 0 + 256 * number_l 256 (take n (drop m bs))) further
 
--- the first k of eight bytes
-pub low_bytes : (bs : List ℕ) (at k : ℕ) → Each1 (λ b. b < 256) bs → k ≤ 8 → number_l 256 (take 8 (drop at bs)) % 256 ^ k ≡ number_l 256 (take k (drop at bs))
-low_bytes bs at k each small =
-    number_take k (take 8 (drop at bs)) (Each1-chunk (λ b. b < 256) at 8 bs each)
-    ∙ ap (number_l 256) (take-take k 8 (drop at bs) small)
+-- zeros past a number's bytes
+pub number_zeros : (xs : List ℕ) (k : ℕ) → number_l 256 (xs ++ replicate k 0) ≡ number_l 256 xs
+number_zeros [] zero = refl
+number_zeros [] (suc k) = omega (arith, number_zeros [] k)
+number_zeros (x ∷ xs) k = ap (λ n. x + 256 * n) (number_zeros xs k)
+
+-- at most eight bytes, written to the front of a word of eight
+pub long_word : (bs wrote : List ℕ) → length bs ≤ 8 → wrote ≡ bs → 0 + 8 ≤ length (wrote ++ drop (length bs) (replicate 8 0))
+long_word bs wrote small same =
+    let long : length wrote ≡ length bs = ap length same in
+    simp (length-append, length-drop) (omega (arith, long))
+
+-- their number
+pub load_word : (bs wrote : List ℕ) (r : ℕ) → length bs ≤ 8 → wrote ≡ bs → r ≡ number_l 256 (take 8 (drop 0 (wrote ++ drop (length bs) (replicate 8 0)))) → r ≡ number_l 256 bs
+load_word bs wrote r small same e =
+    let rest : drop (length bs) (replicate {A = ℕ} 8 0) ≡ replicate (8 - length bs) 0 = drop-replicate (length bs) 8 0 in
+    let long : length (bs ++ replicate {A = ℕ} (8 - length bs) 0) ≤ 8 = simp (length-append, length-replicate) (omega arith) in
+    e
+    ∙ (λ i. number_l 256 (take 8 (same i ++ rest i)))
+    ∙ ap (number_l 256) (take_all 8 (bs ++ replicate (8 - length bs) 0) long)
+    ∙ number_zeros bs (8 - length bs)
 
 -- what a list holds after its part from a start on was written
 pub put_rest : (bytes last wrote : List ℕ) (start n : ℕ) → start + n ≤ length bytes → last ≡ wrote ++ drop n (take (length bytes - start) (drop start bytes)) → put_mid start (length bytes - start) bytes last ≡ take start bytes ++ (wrote ++ drop (start + n) bytes)

@@ -4,11 +4,7 @@ use lib.Lanes.{digits_l}
 use lib.ListN.{length-replicate}
 use Rattle.std.proofs.lemmas.List.{drop_more, take_at, drop_at, drop-drop, take-append-drop, length-take-le, replicate-append-replicate, drop-replicate, drop-append-le, drop_all}
 use Rattle.std.proofs.lemmas.Bool.{eqb-true}
-use Rattle.frames.specs.declared.frame.Frame.{Frame}
-use Rattle.frames.specs.Kinds.{kind_number}
-use Rattle.frames.specs.Views.{frame_fields}
 use Rattle.frames.specs.Slot.{bit_map, standing, Fits, field_widths, list_slot}
-use Rattle.frames.proofs.Reading.{frame_fits}
 use Rattle.frames.proofs.Bytes.{length_digits, digits_wide, digits_zero}
 
 -- where field i begins at the latest
@@ -16,8 +12,8 @@ abbrev pub reach : ℕ → ℕ
 reach i = get_or (1 ∷ 2 ∷ 6 ∷ 7 ∷ 11 ∷ 19 ∷ 27 ∷ 35 ∷ 43 ∷ []) i 0
 
 pub record Width (i : ℕ) : Type 0 where
-  pub next : reach (i + 1) ≡ reach i + get_or field_widths i 8
-  pub most : get_or field_widths i 8 ≤ 8
+  pub next : reach (i + 1) ≡ reach i + get_or field_widths i 0
+  pub most : get_or field_widths i 0 ≤ 8
   pub room : reach i ≤ 35
 
 pub width : (i : ℕ) → i < 8 → Width i
@@ -68,7 +64,7 @@ bits_more : (z : Bool) (map bit rest total : ℕ) → map + bit * (cond z 0 1 + 
 bits_more true map bit rest total e = omega (arith, e, mul-add bit 0 (2 * rest), mul-zero bit, mul_assoc bit 2 rest)
 bits_more false map bit rest total e = omega (arith, e, mul-add bit 1 (2 * rest), mul-one bit, mul_assoc bit 2 rest)
 
-fill_more : (i at map bit v : ℕ) (vs out rest wrote : List ℕ) (z : Bool) → i < 8 → Fits field_widths vs → v ≡ get_or vs i 0 → eqb v 0 ≡ z → 48 ≤ length out → Filled i at map bit vs out rest → wrote ≡ take at out ++ (digits_l 256 8 v ++ drop (at + 8) out) → Filled (i + 1) (at + cond z 0 (get_or field_widths i 8)) (cond z map (map + bit)) (bit * 2) vs wrote rest
+fill_more : (i at map bit v : ℕ) (vs out rest wrote : List ℕ) (z : Bool) → i < 8 → Fits field_widths vs → v ≡ get_or vs i 0 → eqb v 0 ≡ z → 48 ≤ length out → Filled i at map bit vs out rest → wrote ≡ take at out ++ (digits_l 256 8 v ++ drop (at + 8) out) → Filled (i + 1) (at + cond z 0 (get_or field_widths i 0)) (cond z map (map + bit)) (bit * 2) vs wrote rest
 fill_more i at map bit v vs out rest wrote z within fit read test long f stored = record {
   front = ap (λ l. l ++ later) taken ∙ append_assoc (take at out) own later ∙ ap (λ l. take at out ++ l) (sym now_standing) ∙ f.front;
   back = ap (drop (at + k)) split ∙ drop_at (take at out ++ own) (replicate (48 - (at + k)) 0 ++ rest) (at + k) long_front;
@@ -80,7 +76,7 @@ fill_more i at map bit v vs out rest wrote z within fit read test long f stored 
 }
   where
     w : ℕ
-    w = get_or field_widths i 8
+    w = get_or field_widths i 0
 
     k : ℕ
     k = cond z 0 w
@@ -98,7 +94,7 @@ fill_more i at map bit v vs out rest wrote z within fit read test long f stored 
     long_values = sym (fits_length field_widths vs fit)
 
     small : v < 256 ^ w
-    small = subst (λ x. x < 256 ^ w) (sym read) (fits_at field_widths vs i 8 fit within)
+    small = subst (λ x. x < 256 ^ w) (sym read) (fits_at field_widths vs i 0 fit within)
 
     here : Word w v k own
     here = word w v z test size.most small
@@ -107,7 +103,7 @@ fill_more i at map bit v vs out rest wrote z within fit read test long f stored 
     values = drop_more vs i 0 (omega (arith, long_values)) ∙ ap (λ x. x ∷ drop (i + 1) vs) (sym read)
 
     now_standing : standing (drop i field_widths) (drop i vs) ≡ own ++ later
-    now_standing = (λ j. standing (drop_more field_widths i 8 within j) (values j)) ∙ ap (λ b. cond b [] (digits_l 256 w v) ++ later) test
+    now_standing = (λ j. standing (drop_more field_widths i 0 within j) (values j)) ∙ ap (λ b. cond b [] (digits_l 256 w v) ++ later) test
 
     room : at + 8 ≤ 48
     room = omega (arith, f.reached, size.room)
@@ -142,7 +138,7 @@ fill_more i at map bit v vs out rest wrote z within fit read test long f stored 
     lower false = omega (arith, f.below)
 
 -- the same, at the numbers that the loop holds after its turn
-pub fill_next : (i at map bit v : ℕ) (vs out rest wrote : List ℕ) (z : Bool) (at' map' : ℕ) → i < 8 → Fits field_widths vs → v ≡ get_or vs i 0 → eqb v 0 ≡ z → 48 ≤ length out → Filled i at map bit vs out rest → wrote ≡ take at out ++ (digits_l 256 8 v ++ drop (at + 8) out) → at' ≡ at + cond z 0 (get_or field_widths i 8) → map' ≡ cond z map (map + bit) → Filled (i + 1) at' map' (bit * 2) vs wrote rest
+pub fill_next : (i at map bit v : ℕ) (vs out rest wrote : List ℕ) (z : Bool) (at' map' : ℕ) → i < 8 → Fits field_widths vs → v ≡ get_or vs i 0 → eqb v 0 ≡ z → 48 ≤ length out → Filled i at map bit vs out rest → wrote ≡ take at out ++ (digits_l 256 8 v ++ drop (at + 8) out) → at' ≡ at + cond z 0 (get_or field_widths i 0) → map' ≡ cond z map (map + bit) → Filled (i + 1) at' map' (bit * 2) vs wrote rest
 fill_next i at map bit v vs out rest wrote z at' map' within fit read test long f stored ats maps =
     rw (ats, maps) (fill_more i at map bit v vs out rest wrote z within fit read test long f stored)
 
@@ -175,13 +171,6 @@ fill_all at map bit vs out rest long eight f =
 
     left : 48 - at ≡ 47 - length (standing field_widths vs)
     left = omega (arith, ap length front, length-take-le at out (omega (arith, f.reached)))
-
--- a frame's fields, with the number of its kind
-abbrev pub values_of : ℕ → Frame → List ℕ
-values_of k f = k ∷ f.round ∷ f.leader ∷ f.count ∷ f.w1 ∷ f.w2 ∷ f.w3 ∷ f.w4 ∷ []
-
-pub values_fit : (k : ℕ) (f : Frame) → k ≡ kind_number f.kind → Fits field_widths (values_of k f)
-values_fit k f e = subst (λ n. Fits field_widths (values_of n f)) (sym e) (frame_fits (frame_fields f) f.well)
 
 -- the slot's 48 bytes were zeros, and what lay past them stays
 pub past_slot : (out zeros : List ℕ) → zeros ≡ replicate 48 0 → drop 48 (zeros ++ drop 48 out) ≡ drop 48 out

@@ -3,3 +3,4 @@ pub mod Slots
 pub mod Reading
 pub mod Filling
 pub mod Parsing
+pub mod Numbers

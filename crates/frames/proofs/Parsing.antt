@@ -2,8 +2,9 @@
 use Rattle.std.proofs.Common.{◌≡◌, ℕ, zero, suc, ◌+◌, ◌-◌, ◌/◌, ◌%◌, ◌<◌, ◌≤◌, true, false, not, ◌&&◌, eqb, List, [], ◌∷◌, ◌++◌, length, get_or, take, drop, set, replicate, sym, refl, ap, ◌∙◌, subst, append_assoc, append-nil, arith, length-append, length-drop, length-set}
 use lib.Lanes.{number_l, Each1}
 use Rattle.std.proofs.lemmas.List.{drop_more, take_more, take_more_set, drop-drop, take_all, drop-set-lt, get_or-drop}
+use Rattle.std.specs.List.{list_all}
 use Rattle.std.proofs.lemmas.Simd.{Each1-get_or}
-use Rattle.std.proofs.lemmas.Bool.{eq-eqb, ne_eqb, true≢false}
+use Rattle.std.proofs.lemmas.Bool.{eqb-true, eq-eqb, ne_eqb, and_parts, true≢false}
 use Rattle.frames.specs.Slot.{bit_map, standing, Fits, field_widths, list_slot}
 use Rattle.frames.specs.Made.{field, after, fields}
 use Rattle.frames.proofs.Slots.{honest, tail, sound, back, forth, Forth}
@@ -22,7 +23,7 @@ pub read_none : (slot : List ℕ) → Read 0 1 (get_or slot 0 0) (replicate 8 0)
 read_none slot = record { told = refl; rest = refl; fair = refl; eight = refl; blank = refl; begun = omega arith; reached = omega arith }
 
 -- one field more, whether it stands or not
-step : (i at left at' : ℕ) (values values' slot : List ℕ) → i < 8 → Read i at left values slot → honest (get_or field_widths i 8) left (drop at slot) ≡ true → take (i + 1) values' ≡ take i values ++ (field (get_or field_widths i 8) left (drop at slot) ∷ []) → drop (i + 1) values' ≡ drop (i + 1) values → length values' ≡ length values → drop at' slot ≡ after (get_or field_widths i 8) left (drop at slot) → at ≤ at' → at' ≤ at + get_or field_widths i 8 → Read (i + 1) at' (left / 2) values' slot
+step : (i at left at' : ℕ) (values values' slot : List ℕ) → i < 8 → Read i at left values slot → honest (get_or field_widths i 0) left (drop at slot) ≡ true → take (i + 1) values' ≡ take i values ++ (field (get_or field_widths i 0) left (drop at slot) ∷ []) → drop (i + 1) values' ≡ drop (i + 1) values → length values' ≡ length values → drop at' slot ≡ after (get_or field_widths i 0) left (drop at slot) → at ≤ at' → at' ≤ at + get_or field_widths i 0 → Read (i + 1) at' (left / 2) values' slot
 step i at left at' values values' slot within r true_field taken kept long moved low high = record {
   told =
       (λ j. taken j ++ fields (drop (i + 1) field_widths) (left / 2) (moved j))
@@ -42,13 +43,13 @@ step i at left at' values values' slot within r true_field taken kept long moved
 }
   where
     w : ℕ
-    w = get_or field_widths i 8
+    w = get_or field_widths i 0
 
     bs : List ℕ
     bs = drop at slot
 
     widths : drop i field_widths ≡ w ∷ drop (i + 1) field_widths
-    widths = drop_more field_widths i 8 within
+    widths = drop_more field_widths i 0 within
 
     shorter : drop 1 (replicate {A = ℕ} (8 - i) 0) ≡ replicate (8 - (i + 1)) 0
     shorter =
@@ -71,14 +72,14 @@ read_off i at left values slot within r even =
         sym (ap (λ k. get_or values k 0) plain) ∙ sym (get_or-drop i values 0 0) ∙ ap (λ l. get_or l 0 0) r.blank ∙ ap (λ n. get_or (replicate {A = ℕ} n 0) 0 0) more
 
 -- a field that stands
-pub read_on : (i at left v : ℕ) (values slot : List ℕ) → i < 8 → Read i at left values slot → left % 2 ≡ 1 → v ≡ number_l 256 (take (get_or field_widths i 8) (drop at slot)) → (v ≡ 0 → ⊥) → Read (i + 1) (at + get_or field_widths i 8) (left / 2) (set values i v) slot
+pub read_on : (i at left v : ℕ) (values slot : List ℕ) → i < 8 → Read i at left values slot → left % 2 ≡ 1 → v ≡ number_l 256 (take (get_or field_widths i 0) (drop at slot)) → (v ≡ 0 → ⊥) → Read (i + 1) (at + get_or field_widths i 0) (left / 2) (set values i v) slot
 read_on i at left v values slot within r odd read nonzero =
     step i at left (at + w) values (set values i v) slot within r fair_field
     (take_more_set values i v (omega (arith, r.eight)) ∙ ap (λ x. take i values ++ (x ∷ [])) (read ∙ sym (rw on refl)))
     (drop-set-lt (i + 1) values i v (omega arith)) (length-set values i v) (sym (drop-drop w at slot) ∙ sym (rw on refl)) (omega arith) (omega arith)
   where
     w : ℕ
-    w = get_or field_widths i 8
+    w = get_or field_widths i 0
 
     on : eqb (left % 2) 0 ≡ false
     on = ap (λ k. eqb k 0) odd
@@ -102,11 +103,11 @@ slot_sound vs slot fit e =
     get_or_zeros (suc n) (suc k) = get_or_zeros n k
 
 -- a field that stands as 0: no slot has it
-pub dishonest : (i at left v : ℕ) (values slot vs : List ℕ) → i < 8 → Read i at left values slot → left % 2 ≡ 1 → v ≡ number_l 256 (take (get_or field_widths i 8) (drop at slot)) → v ≡ 0 → Fits field_widths vs → list_slot vs ≡ slot → ⊥
-dishonest i at left v values slot vs within r odd read z fit e = true≢false (sym (slot_sound vs slot fit e).whole ∙ sym r.fair ∙ ap (λ ws. sound ws left bs) (drop_more field_widths i 8 within) ∙ ap (λ b. b && sound (drop (i + 1) field_widths) (left / 2) (after w left bs)) unfair)
+pub dishonest : (i at left v : ℕ) (values slot vs : List ℕ) → i < 8 → Read i at left values slot → left % 2 ≡ 1 → v ≡ number_l 256 (take (get_or field_widths i 0) (drop at slot)) → v ≡ 0 → Fits field_widths vs → list_slot vs ≡ slot → ⊥
+dishonest i at left v values slot vs within r odd read z fit e = true≢false (sym (slot_sound vs slot fit e).whole ∙ sym r.fair ∙ ap (λ ws. sound ws left bs) (drop_more field_widths i 0 within) ∙ ap (λ b. b && sound (drop (i + 1) field_widths) (left / 2) (after w left bs)) unfair)
   where
     w : ℕ
-    w = get_or field_widths i 8
+    w = get_or field_widths i 0
 
     bs : List ℕ
     bs = drop at slot
@@ -121,21 +122,26 @@ dishonest i at left v values slot vs within r odd read z fit e = true≢false (s
 pub read_tail : (at left : ℕ) (values slot : List ℕ) → Read 8 at left values slot → tail field_widths (get_or slot 0 0) (drop 1 slot) ≡ drop at slot
 read_tail at left values slot r = sym r.rest
 
--- a byte past the fields that is not 0: no slot has it
-pub untidy : (at left k : ℕ) (values slot vs : List ℕ) → Read 8 at left values slot → at ≤ k → (get_or slot k 0 ≡ 0 → ⊥) → Fits field_widths vs → list_slot vs ≡ slot → ⊥
-untidy at left k values slot vs r low bad fit e =
-    let there : at + (k - at) ≡ k = omega arith in
-    bad (sym (ap (λ n. get_or slot n 0) there) ∙ sym (get_or-drop at slot (k - at) 0) ∙ ap (λ l. get_or l (k - at) 0) (sym (read_tail at left values slot r)) ∙ (slot_sound vs slot fit e).zeros (k - at))
+zeros_pass : (l : List ℕ) → ((k : ℕ) → get_or l k 0 ≡ 0) → list_all (λ b. eqb b 0) l ≡ true
+zeros_pass [] h = refl
+zeros_pass (x ∷ l) h = λ j. eqb (h 0 j) 0 && zeros_pass l (λ k. h (suc k)) j
 
-all_zero : (l : List ℕ) → ((k : ℕ) → k < length l → get_or l k 0 ≡ 0) → l ≡ replicate (length l) 0
+-- a byte past the fields that is not 0: no slot has it
+pub untidy : (at left : ℕ) (values slot vs : List ℕ) → Read 8 at left values slot → false ≡ list_all (λ b. eqb b 0) (drop at slot) → Fits field_widths vs → list_slot vs ≡ slot → ⊥
+untidy at left values slot vs r bad fit e =
+    true≢false (sym (zeros_pass (drop at slot) (λ k. ap (λ l. get_or l k 0) (sym (read_tail at left values slot r)) ∙ (slot_sound vs slot fit e).zeros k)) ∙ sym bad)
+
+all_zero : (l : List ℕ) → list_all (λ b. eqb b 0) l ≡ true → l ≡ replicate (length l) 0
 all_zero [] h = refl
-all_zero (x ∷ l) h = λ j. h 0 (omega arith) j ∷ all_zero l (λ k lt. h (suc k) (omega arith)) j
+all_zero (x ∷ l) h =
+    let parts = and_parts (eqb x 0) (list_all (λ b. eqb b 0) l) h in
+    λ j. eqb-true x 0 parts.0 j ∷ all_zero l parts.1 j
 
 each_rest : (l : List ℕ) → Each1 (λ b. b < 256) l → Each1 (λ b. b < 256) (drop 1 l)
 each_rest [] h = tt
 each_rest (x ∷ l) h = h.1
 
-pub read_all : (at left : ℕ) (values slot : List ℕ) → length slot ≡ 48 → Each1 (λ b. b < 256) slot → Read 8 at left values slot → ((k : ℕ) → at ≤ k → k < 48 → get_or slot k 0 ≡ 0) → (list_slot values ≡ slot) × Fits field_widths values
+pub read_all : (at left : ℕ) (values slot : List ℕ) → length slot ≡ 48 → Each1 (λ b. b < 256) slot → Read 8 at left values slot → true ≡ list_all (λ b. eqb b 0) (drop at slot) → (list_slot values ≡ slot) × Fits field_widths values
 read_all at left values slot long each r zeros = (whole, subst (Fits field_widths) (sym told) way.fit)
   where
     map : ℕ
@@ -156,7 +162,7 @@ read_all at left values slot long each r zeros = (whole, subst (Fits field_width
     left_over : tail field_widths map bs ≡ replicate (length (drop at slot)) 0
     left_over =
         sym r.rest
-        ∙ all_zero (drop at slot) (λ k lt. get_or-drop at slot k 0 ∙ zeros (at + k) (omega arith) (omega (arith, lt, length-drop at slot, long)))
+        ∙ all_zero (drop at slot) (sym zeros)
 
     size : length (drop at slot) ≡ 47 - length (standing field_widths values)
     size =

@@ -1,8 +1,8 @@
 -- Every frame has one slot, and exactly those slots are read back as frames.
-use Rattle.std.proofs.Common.{◌≡◌, ℕ, ◌-◌, ◌<◌, Bool, true, false, cond, ◌&&◌, ◌||◌, eqb, leb, ◌⊎◌, List, [], ◌∷◌, length, replicate, Ok, Err, Result, sym, refl, ap, ◌∙◌, subst, inl, inr, ⊎_elim, arith, lit<}
+use Rattle.std.proofs.Common.{◌≡◌, ℕ, ◌-◌, ◌<◌, Bool, true, false, cond, ◌&&◌, ◌||◌, eqb, leb, ltb, ◌⊎◌, List, [], ◌∷◌, length, replicate, Ok, Err, Result, Some, None, sym, refl, ap, ◌∙◌, subst, inl, inr, ⊎_elim, arith, lit<}
 use mathlib.Core.Bool.{Bool-set}
 use mathlib.Core.HLevel.{is_prop→PathP}
-use Rattle.std.proofs.lemmas.Bool.{eqb-true, eq-eqb, and_parts, or_cases, false≢true}
+use Rattle.std.proofs.lemmas.Bool.{eqb-true, eq-eqb, and_parts, or_cases, false≢true, true≢false}
 use Rattle.std.proofs.lemmas.Bool.Decides.{nat_tests}
 use Rattle.refusals.specs.declared.Refusal.{Refusal}
 use Rattle.refusals.specs.declared.Refusal.TheVariants.{OutOfRange, Malformed}
@@ -10,8 +10,9 @@ use Rattle.frames.specs.declared.entry.Entry.{Entry}
 use Rattle.frames.specs.declared.frame.Frame.{Frame}
 use Rattle.frames.specs.declared.kind.Kind.{Kind}
 use Rattle.frames.specs.declared.kind.Kind.TheVariants.{Message, DiffHead, DiffEntry, AcceptRow, VoteRow, CommitRow}
-use Rattle.frames.specs.Kinds.{kind_number}
-use Rattle.frames.specs.Fields.{FrameFields, is_entry, is_entry_header, is_frame, carries_entry, carries_diff, carries_header, carries_vote}
+use Rattle.frames.specs.Kinds.{kind_number, kind_from}
+use Rattle.marks.specs.Kinds.{Header}
+use Rattle.frames.specs.Fields.{FrameFields, header_of, is_entry, is_entry_header, is_frame, carries_entry, carries_diff, carries_header, carries_vote}
 use Rattle.frames.specs.Views.{entry_fields, frame_fields}
 use Rattle.frames.specs.Slot.{field_list, field_widths, Fits, standing, list_slot, slot_of}
 use Rattle.frames.specs.Made.{kind_at, with_kind, frame_if, frame_from, entry_if, entry_from, from_list, told, same_bytes, read_back, slot, SlotsAndFrames}
@@ -86,6 +87,10 @@ kind_back AcceptRow = refl
 kind_back VoteRow = refl
 kind_back CommitRow = refl
 
+-- the kind of a number has that number
+pub kind_named : (n : ℕ) (k : Kind) → ◌≡◌ {A = Result Kind Refusal} (Ok k) (kind_from n) → kind_number k ≡ n
+kind_named n k e = grind (arith, nat_tests)
+
 pub same_frame : (f g : Frame) → frame_fields f ≡ frame_fields g → f ≡ g
 same_frame f g e = λ i. record {
   kind = kinds i;
@@ -154,6 +159,29 @@ from_made f g h = go (is_frame f) refl
     go : (b : Bool) → is_frame f ≡ b → frame_fields g ≡ f
     go true e = if_fields f (is_frame (with_kind f)) refl g (rw e at h) ∙ same_fields f e
     go false e = absurd (err_ok g (rw e at h))
+
+abbrev narrow : FrameFields → Bool
+narrow f = ltb f.round 4294967296 && (ltb f.leader 256 && ltb f.count 4294967296)
+
+none_false : {A : Type 0} (b : Bool) (x : A) → None ≡ cond b (Some x) None → b ≡ false
+none_false true x e = absurd (let z : ◌≡◌ {A = ℕ} 0 1 = cc in omega arith)
+none_false false x e = refl
+
+-- numbers that no frame's fields hold
+pub wide_refused : (f : FrameFields) → None ≡ cond (narrow f) (Some (header_of f)) None → Err Malformed ≡ frame_from f
+wide_refused f e = sym (refused f (go (is_frame f) refl))
+  where
+    fits : (r l c : ℕ) → r < 4294967296 → l < 256 → c < 4294967296 → (ltb r 4294967296 && (ltb l 256 && ltb c 4294967296)) ≡ true
+    fits r l c p q h = grind (arith, nat_tests)
+
+    go : (b : Bool) → is_frame f ≡ b → is_frame f ≡ false
+    go true h = let s = small f h in absurd (true≢false (sym (fits f.round f.leader f.count s.round s.leader s.count) ∙ none_false (narrow f) (header_of f) e))
+    go false h = h
+
+-- and those that they hold
+pub narrow_header : (b : Bool) (x y : Header) → Some x ≡ cond b (Some y) None → x ≡ y
+narrow_header true x y e = cc
+narrow_header false x y e = absurd (let z : ◌≡◌ {A = ℕ} 0 1 = cc in omega arith)
 
 pub written_reads : (f : Frame) → read_back (slot f) ≡ Ok f
 written_reads f =

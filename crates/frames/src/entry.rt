@@ -6,7 +6,7 @@ use marks::Header;
 
 pub type Words = (u64, u64, u64);
 
-#[derive(Clone, Copy)]
+#[derive(Clone, Copy, PartialEq, Eq, Debug)]
 pub struct Entry {
     pub header: Header,
     pub queue: u8,

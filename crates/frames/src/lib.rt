@@ -1,6 +1,7 @@
 // Entries, frames, and the 48 bytes of a frame's slot.
 #![tactic(auto)]
 
+pub mod carried;
 pub mod entry;
 pub mod frame;
 pub mod kind;

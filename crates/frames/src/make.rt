@@ -1,11 +1,15 @@
 // Frames and entries from plain numbers, refused where they are no frame's and no entry's.
-ghost use Rattle.std.specs.Prelude.{◌≡◌};
-ghost use Rattle.frames.specs.Fields.{fields_of, carries_entry, carries_diff, carries_header, carries_vote};
+ghost use Rattle.std.specs.Prelude.{◌≡◌, true, ◌&&◌, if◌then◌else◌, Some, None, nat_lt};
+ghost use Rattle.frames.specs.Kinds.{kind_number};
+ghost use Rattle.frames.specs.Fields.{fields_of, is_entry_header, carries_entry, carries_diff, carries_header, carries_vote};
+ghost use Rattle.frames.specs.Views.{entry_fields, frame_fields};
+ghost use Rattle.frames.specs.Carried.{of_entry, entry_frame};
 ghost use Rattle.marks.specs.Kinds.{is_header};
-ghost use Rattle.frames.specs.Made.{frame_from, entry_from};
+ghost use Rattle.frames.specs.Made.{from_list, frame_from, entry_from};
+ghost use Rattle.frames.specs.Numbers.{word_from, frame_from_numbers};
 
 use crate::{Entry, Frame, Kind, Words};
-use marks::{Header, LAST_COUNT, is_epoch, is_header};
+use marks::{Header, LAST_COUNT, is_card, is_epoch, is_header};
 use refusals::Refusal;
 
 pub type FrameWords = (u64, u64, u64, u64);
@@ -13,29 +17,52 @@ pub type FrameWords = (u64, u64, u64, u64);
 // The most entries that may follow a diff's head.
 pub const MOST_ENTRIES: u64 = 1024;
 
+pub const LAST_QUEUE: u8 = 15;
+
+// An entry's header has a leader and a count of 1 or more.
+fn is_entry_header(header: Header) -> bool
+    ensures { result ≡ is_entry_header header }
+{
+    let (_, leader, count) = header;
+    is_card(leader) && (1..=LAST_COUNT).contains(&count)
+}
+
 fn carries_entry(header: Header, words: FrameWords) -> bool
     ensures { result ≡ carries_entry (fields_of 1 header words) }
 {
-    let (_, leader, count) = header;
-    1 <= leader && leader <= 7 && 1 <= count && count <= LAST_COUNT && words.0 <= 15
+    is_entry_header(header) && words.0 <= LAST_QUEUE as u64
 }
 
-// The header that three words hold, if they hold one.
+// Three numbers as a header's, where they are of its widths.
+fn narrow(round: u64, leader: u64, count: u64) -> Option<Header>
+    ensures { result ≡ (if nat_lt round 4294967296 && (nat_lt leader 256 && nat_lt count 4294967296) then Some (round, leader, count) else None) }
+{
+    let round = u32::try_from(round).ok()?;
+    let leader = u8::try_from(leader).ok()?;
+    let count = u32::try_from(count).ok()?;
+    Some((round, leader, count))
+}
+
+// Whether three words hold a header.
 fn words_header(words: FrameWords) -> bool
     ensures { result ≡ is_header (words.0, words.1, words.2) }
 {
-    if words.0 > 4294967295 || words.1 > 7 || words.2 > 4294967294 {
-        false
-    } else {
-        is_header((words.0 as u32, words.1 as u8, words.2 as u32))
-    }
+    let (w1, w2, w3, _) = words;
+    narrow(w1, w2, w3).is_some_and(|header| is_header(header))
+}
+
+// A whole number of 64 bits.
+fn word(number: i128) -> Result<u64, Refusal>
+    ensures { result ≡ word_from number }
+{
+    u64::try_from(number).or(Err(Refusal::Malformed))
 }
 
 fn carries_diff(header: Header, words: FrameWords) -> bool
     ensures { result ≡ carries_diff (fields_of 2 header words) }
 {
     let (_, leader, count) = header;
-    1 <= leader && leader <= 7 && count == 0 && words.3 <= MOST_ENTRIES && words_header(words)
+    is_card(leader) && count == 0 && words.3 <= MOST_ENTRIES && words_header(words)
 }
 
 fn carries_header(header: Header, words: FrameWords) -> bool
@@ -51,20 +78,37 @@ fn carries_vote(header: Header, words: FrameWords) -> bool
     count == 0 && words.3 == 0 && is_epoch((round, leader)) && words_header(words)
 }
 
+// The frame of such a kind that carries this entry.
+fn carrying(kind: Kind, entry: Entry) -> Frame
+    requires { of_entry kind ≡ true }
+    ensures { frame_fields result ≡ entry_frame (kind_number kind) (entry_fields entry) }
+{
+    let (round, leader, count) = entry.header;
+    let (w2, w3, w4) = entry.payload;
+    Frame {
+        kind,
+        round,
+        leader,
+        count,
+        w1: entry.queue as u64,
+        w2,
+        w3,
+        w4,
+    }
+}
+
 impl Frame {
-    // The frame of these numbers; 8 where they are no frame's.
-    pub fn new(kind: u8, header: Header, words: FrameWords) -> Result<Frame, Refusal>
-        ensures { result ≡ frame_from (fields_of kind header words) }
+    // The frame of this kind with these numbers; 8 where they are no frame's.
+    pub fn of(kind: Kind, header: Header, words: FrameWords) -> Result<Frame, Refusal>
+        ensures { result ≡ frame_from (fields_of (kind_number kind) header words) }
     {
-        let kind = match kind {
-            1 if carries_entry(header, words) => Kind::Message,
-            2 if carries_diff(header, words) => Kind::DiffHead,
-            3 if carries_entry(header, words) => Kind::DiffEntry,
-            4 if carries_header(header, words) => Kind::AcceptRow,
-            5 if carries_vote(header, words) => Kind::VoteRow,
-            6 if carries_header(header, words) => Kind::CommitRow,
+        match kind {
+            Kind::Message | Kind::DiffEntry if carries_entry(header, words) => {}
+            Kind::DiffHead if carries_diff(header, words) => {}
+            Kind::AcceptRow | Kind::CommitRow if carries_header(header, words) => {}
+            Kind::VoteRow if carries_vote(header, words) => {}
             _ => return Err(Refusal::Malformed),
-        };
+        }
         let (round, leader, count) = header;
         let (w1, w2, w3, w4) = words;
         Ok(Frame {
@@ -78,6 +122,50 @@ impl Frame {
             w4,
         })
     }
+
+    // The same, from a kind's number; 8 where it is no kind's.
+    pub fn new(kind: u8, header: Header, words: FrameWords) -> Result<Frame, Refusal>
+        ensures { result ≡ frame_from (fields_of kind header words) }
+    {
+        Frame::of(Kind::try_from(kind)?, header, words)
+    }
+
+    // The same, from the fields in their order; 8 for one that is too large.
+    pub fn from_fields(fields: [u64; 8]) -> Result<Frame, Refusal>
+        ensures { result ≡ frame_from (from_list fields) }
+    {
+        let [kind, round, leader, count, w1, w2, w3, w4] = fields;
+        let kind = u8::try_from(kind).or(Err(Refusal::Malformed))?;
+        let Some(header) = narrow(round, leader, count) else {
+            return Err(Refusal::Malformed);
+        };
+        Frame::new(kind, header, (w1, w2, w3, w4))
+    }
+
+    // The same, from whole numbers.
+    pub fn from_numbers(numbers: [i128; 8]) -> Result<Frame, Refusal>
+        ensures { result ≡ frame_from_numbers numbers }
+    {
+        let mut fields = [0; 8];
+        for (k, number) in numbers.iter().enumerate() {
+            fields[k] = word(*number)?;
+        }
+        Frame::from_fields(fields)
+    }
+
+    // The message of an entry.
+    pub fn message(entry: Entry) -> Frame
+        ensures { frame_fields result ≡ entry_frame 1 (entry_fields entry) }
+    {
+        carrying(Kind::Message, entry)
+    }
+
+    // An entry's frame in a diff.
+    pub fn diff_entry(entry: Entry) -> Frame
+        ensures { frame_fields result ≡ entry_frame 3 (entry_fields entry) }
+    {
+        carrying(Kind::DiffEntry, entry)
+    }
 }
 
 impl Entry {
@@ -85,11 +173,10 @@ impl Entry {
     pub fn new(header: Header, queue: u8, payload: Words) -> Result<Entry, Refusal>
         ensures { result ≡ entry_from (record { header = header; queue = queue; payload = payload }) }
     {
-        let (_, leader, count) = header;
-        if queue > 15 {
+        if queue > LAST_QUEUE {
             return Err(Refusal::OutOfRange);
         }
-        if leader < 1 || 7 < leader || count < 1 || LAST_COUNT < count {
+        if !is_entry_header(header) {
             return Err(Refusal::Malformed);
         }
         Ok(Entry {

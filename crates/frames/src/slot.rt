@@ -1,5 +1,6 @@
 // The 48 bytes of a frame in the caller's memory, written and read at any start.
-ghost use Rattle.std.specs.Prelude.{◌≡◌, ◌+◌, ◌<◌, ◌≤◌, ◌++◌, length, take, drop, if◌then◌else◌, Ok, Err, nat_le, slice_index_or};
+ghost use Rattle.std.specs.Prelude.{◌≡◌, ◌+◌, ◌<◌, ◌≤◌, ◌++◌, length, take, drop, if◌then◌else◌, Ok, Err, ◌==◌, nat_le};
+ghost use Rattle.std.specs.List.{list_all};
 ghost use Rattle.std.specs.Simd.Lanes.{digits_l, number_l};
 ghost use Rattle.refusals.specs.declared.Refusal.TheVariants.{WrongSize};
 ghost use Rattle.frames.specs.Slot.{field_widths, ReadsFields};
@@ -11,16 +12,8 @@ use refusals::Refusal;
 
 pub const SLOT: usize = 48;
 
-// The bytes that a field takes.
-fn field_width(i: usize) -> usize
-    ensures { result ≡ slice_index_or field_widths i 8 }
-{
-    match i {
-        0 | 2 => 1,
-        1 | 3 => 4,
-        _ => 8,
-    }
-}
+// The bytes that each field takes.
+const WIDTHS: [usize; 8] = [1, 4, 1, 4, 8, 8, 8, 8];
 
 fn store(out: &mut [u8], at: usize, value: u64)
     requires { at + 8 ≤ length out.old }
@@ -35,25 +28,15 @@ fn fill(out: &mut [u8], frame: Frame)
     requires { 48 ≤ length out.old }
     ensures { out.new ≡ slot frame ++ drop 48 out.old }
 {
-    let values = [
-        frame.kind.number() as u64,
-        frame.round as u64,
-        frame.leader as u64,
-        frame.count as u64,
-        frame.w1,
-        frame.w2,
-        frame.w3,
-        frame.w4,
-    ];
+    let values = frame.fields();
     let mut at = 1;
     let mut map = 0u16;
     let mut bit = 1u16;
     out[0..48].copy_from_slice(&[0; SLOT]);
-    for i in 0..8 {
-        let value = values[i];
-        store(out, at, value);
-        if value != 0 {
-            at += field_width(i);
+    for (i, value) in values.iter().enumerate() {
+        store(out, at, *value);
+        if *value != 0 {
+            at += WIDTHS[i];
             map += bit;
         }
         bit *= 2;
@@ -80,34 +63,20 @@ pub fn write_slot(bytes: &mut [u8], start: usize, frame: Frame) -> Result<(), Re
     Ok(())
 }
 
-// Eight bytes as a number, the low byte first.
-fn load(bytes: &[u8], at: usize) -> u64
-    requires { at + 8 ≤ length bytes.now }
-    ensures { result ≡ number_l 256 (take 8 (drop at bytes.now)) }
+// At most eight bytes as a number, the low byte first.
+fn load(bytes: &[u8]) -> u64
+    requires { length bytes.now ≤ 8 }
+    ensures { result ≡ number_l 256 bytes.now }
 {
-    u64::from_le_bytes([
-        bytes[at],
-        bytes[at + 1],
-        bytes[at + 2],
-        bytes[at + 3],
-        bytes[at + 4],
-        bytes[at + 5],
-        bytes[at + 6],
-        bytes[at + 7],
-    ])
+    let mut word = [0; 8];
+    word[..bytes.len()].copy_from_slice(bytes);
+    u64::from_le_bytes(word)
 }
 
-// Field i, whose own bytes begin at `at`.
-fn load_field(bytes: &[u8], at: usize, i: usize) -> u64
-    requires { at + 8 ≤ length bytes.now }
-    ensures { i < 8 → result ≡ number_l 256 (take (slice_index_or field_widths i 8) (drop at bytes.now)) }
+fn all_zero(bytes: &[u8]) -> bool
+    ensures { result ≡ list_all (λ b. b == 0) bytes.now }
 {
-    let value = load(bytes, at);
-    match i {
-        0 | 2 => value % 256,
-        1 | 3 => value % 4294967296,
-        _ => value,
-    }
+    bytes.iter().all(|byte| *byte == 0)
 }
 
 // The fields that 48 bytes are the slot of; 8 where they are the slot of none.
@@ -118,21 +87,19 @@ fn read_fields(slot: &[u8]) -> Result<[u64; 8], Refusal>
     let mut values = [0u64; 8];
     let mut left = slot[0];
     let mut at = 1;
-    for i in 0..8 {
+    for (i, width) in WIDTHS.iter().enumerate() {
         if left % 2 == 1 {
-            let value = load_field(slot, at, i);
+            let value = load(&slot[at..at + *width]);
             if value == 0 {
                 return Err(Refusal::Malformed);
             }
             values[i] = value;
-            at += field_width(i);
+            at += *width;
         }
         left /= 2;
     }
-    for rest in at..48 {
-        if slot[rest] != 0 {
-            return Err(Refusal::Malformed);
-        }
+    if !all_zero(&slot[at..]) {
+        return Err(Refusal::Malformed);
     }
     Ok(values)
 }
@@ -145,12 +112,7 @@ pub fn read_slot(bytes: &[u8], start: usize) -> Result<Frame, Refusal>
     if !slot_fits(bytes.len(), start) {
         return Err(Refusal::WrongSize);
     }
-    let values = read_fields(&bytes[start..start + SLOT])?;
-    Frame::new(
-        values[0] as u8,
-        (values[1] as u32, values[2] as u8, values[3] as u32),
-        (values[4], values[5], values[6], values[7]),
-    )
+    Frame::from_fields(read_fields(&bytes[start..start + SLOT])?)
 }
 
 // The definition at one message.

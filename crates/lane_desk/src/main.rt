@@ -3,85 +3,72 @@
 
 mod parse;
 
-use backplane::Backplane;
 use frame_box::FrameBox;
 use frames::slot::SLOT;
-use lane_calls::{Answer, apply};
+use lane_calls::{Call, Reply, apply};
 use parse::{Desk, parse_call, parse_desk};
 use ring_table::Shape;
-use rings::{Rings, shape_for};
+use rings::Rings;
 use std::io;
 use std::io::{BufRead, BufReader};
 use std::str::Lines;
 
-fn run_on<B: Backplane>(rt: &HostRuntime, backplane: &mut B, lines: Lines<'_>) -> io::Result<()> {
+// Each line's call, carried out and answered.
+fn run<F: FnMut(Call) -> io::Result<()>>(
+    rt: &HostRuntime,
+    lines: Lines<'_>,
+    mut carry_out: F,
+) -> io::Result<()>
+    requires { F.IsAlwaysCallable carry_out }
+{
     for line in lines {
-        match parse_call(line) {
-            Some(call) => {
-                let answer = apply(backplane, call);
-                println!(rt; "{answer}")?;
-            }
-            None => println!(rt; "not a call: {line}")?,
-        }
+        let Some(call) = parse_call(rt.alloc(), line)? else {
+            println!(rt; "not a call: {line}")?;
+            continue;
+        };
+        carry_out(call)?;
     }
     Ok(())
 }
 
-// The same calls on two backplanes.
-fn run_on_both<B: Backplane, C: Backplane>(
-    rt: &HostRuntime,
-    left: &mut B,
-    right: &mut C,
-    lines: Lines<'_>,
-) -> io::Result<()> {
-    for line in lines {
-        match parse_call(line) {
-            Some(call) => print_both(rt, apply(left, call), apply(right, call))?,
-            None => println!(rt; "not a call: {line}")?,
-        }
+// What is printed of a reply.
+fn text(rt: &HostRuntime, reply: Reply) -> io::Result<String> {
+    match reply {
+        Ok(answer) => Ok(answer.to_string(rt.alloc())?),
+        Err(refusal) => Ok(refusal.to_string(rt.alloc())?),
     }
-    Ok(())
 }
 
 // One answer where both are the same.
-fn print_both(rt: &HostRuntime, left: Answer, right: Answer) -> io::Result<()> {
-    let one = left.to_string(rt.alloc())?;
-    let other = right.to_string(rt.alloc())?;
-    if one == other {
-        println!(rt; "{one}")
-    } else {
-        println!(rt; "box {one}, rings {other}")
+fn print_both(rt: &HostRuntime, left: Reply, right: Reply) -> io::Result<()> {
+    if left == right {
+        return print(rt, left);
     }
+    let one = text(rt, left)?;
+    let other = text(rt, right)?;
+    println!(rt; "box {one}, rings {other}")
 }
 
-fn run_rings(
+fn print(rt: &HostRuntime, reply: Reply) -> io::Result<()> {
+    let one = text(rt, reply)?;
+    println!(rt; "{one}")
+}
+
+// Lends bytes of this shape to what is to be done over rings.
+fn over_rings<F: FnOnce(&mut Rings<'_>) -> io::Result<()>>(
     rt: &HostRuntime,
     cards: u8,
     room: usize,
-    both: bool,
-    lines: Lines<'_>,
-) -> io::Result<()> {
-    let len = buffer_len(cards, room);
-    let mut bytes = vec![in rt.alloc(); 0u8; len]?;
-    match shape_for(cards, room, len) {
+    work: F,
+) -> io::Result<()>
+    requires { F.IsAlwaysCallable work }
+{
+    match Shape::of(cards, room) {
         Ok(shape) => {
-            let mut rings = Rings::over(bytes.as_mut_slice(), shape);
-            if both {
-                let mut frames = FrameBox::new();
-                run_on_both(rt, &mut frames, &mut rings, lines)
-            } else {
-                run_on(rt, &mut rings, lines)
-            }
+            let mut bytes = vec![in rt.alloc(); 0u8; shape.slots() * SLOT]?;
+            work(&mut Rings::over(bytes.as_mut_slice(), shape))
         }
         Err(refusal) => println!(rt; "{refusal}"),
-    }
-}
-
-// The bytes to lend; none for sizes that are refused.
-fn buffer_len(cards: u8, room: usize) -> usize {
-    match Shape::of(cards, room) {
-        Ok(shape) => shape.slots() * SLOT,
-        Err(_) => 0,
     }
 }
 
@@ -91,13 +78,21 @@ fn run_section(rt: &HostRuntime, section: &str) -> io::Result<()> {
         return Ok(());
     };
     println!(rt; "{first}")?;
-    match parse_desk(first) {
+    match parse_desk(rt.alloc(), first)? {
         Some(Desk::Box) => {
             let mut frames = FrameBox::new();
-            run_on(rt, &mut frames, lines)
+            run(rt, lines, |call| print(rt, apply(&mut frames, call)))
         }
-        Some(Desk::Rings(cards, room)) => run_rings(rt, cards, room, false, lines),
-        Some(Desk::Both(room)) => run_rings(rt, 3, room, true, lines),
+        Some(Desk::Rings(cards, room)) => over_rings(rt, cards, room, |rings| {
+            run(rt, lines, |call| print(rt, apply(rings, call)))
+        }),
+        // The same calls on two backplanes.
+        Some(Desk::Both(room)) => over_rings(rt, 3, room, |rings| {
+            let mut frames = FrameBox::new();
+            run(rt, lines, |call| {
+                print_both(rt, apply(&mut frames, call), apply(rings, call))
+            })
+        }),
         None => println!(rt; "not a backplane: box, rings CARDS ROOM or both ROOM"),
     }
 }

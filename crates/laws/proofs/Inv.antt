@@ -7,7 +7,8 @@ use Rattle.frames.specs.Fields as fields
 use Rattle.frames.specs.Fields.{EntryFields, FrameFields}
 use Rattle.protocol.specs.Rack.{State, is_electing, is_leader}
 use Rattle.protocol.specs.Rows.{majority, blank_row}
-use Rattle.protocol.specs.Booking.{entry_frame, diff_frames}
+use Rattle.frames.specs.Carried.{entry_frame}
+use Rattle.protocol.specs.Booking.{diff_frames}
 use Rattle.protocol.specs.Committing.{last_header}
 use Rattle.protocol.specs.declared.card.Card.{Card}
 use Rattle.protocol.specs.declared.card.Role.{Role}

@@ -8,7 +8,8 @@ use Rattle.marks.specs.Kinds.{Header}
 use Rattle.frames.specs.Fields.{EntryFields, FrameFields}
 use Rattle.protocol.specs.Rows.{blank_row, row_of, mark_shipped}
 use Rattle.protocol.specs.Rack.{Sizes, State, is_leader, no_card, no_peer}
-use Rattle.protocol.specs.Booking.{entry_frame, entry_at, inside, diff_entries, message_frames, shipment, shipped_after, shipment_to, with_peers, ship_checks, shipped}
+use Rattle.frames.specs.Carried.{entry_frame}
+use Rattle.protocol.specs.Booking.{entry_at, inside, diff_entries, message_frames, shipment, shipped_after, shipment_to, with_peers, ship_checks, shipped}
 use Rattle.protocol.specs.declared.card.Card.{Card}
 use Rattle.laws.proofs.Base.{en, hn, at_same, at_other}
 use Rattle.laws.proofs.Inv.{Past, hist, view, CardOk, RowOk, FrameOk, Parcel, message, diff, frames_of, laid, MessageOk, ParcelOk, Waiting, Inv}

@@ -10,8 +10,9 @@ use Rattle.marks.specs.Order.{epoch_same, header_below, header_up_to}
 use Rattle.frames.specs.Fields.{EntryFields, FrameFields}
 use Rattle.protocol.specs.Rows.{blank_row}
 use Rattle.protocol.specs.Rack.{Sizes, State, at_lane, is_electing}
-use Rattle.protocol.specs.Booking.{accepted_up_to, entry_frame, diff_frames}
-use Rattle.protocol.specs.Taking.{front, body_of, front_size, too_low, in_turn, entry_of, kept_up_to, log_after, entered_by, taken_by, take_checks, passed_over, entered, taken}
+use Rattle.frames.specs.Carried.{entry_frame, entry_of}
+use Rattle.protocol.specs.Booking.{accepted_up_to, diff_frames}
+use Rattle.protocol.specs.Taking.{front, body_of, front_size, too_low, in_turn, kept_up_to, log_after, entered_by, taken_by, take_checks, passed_over, entered, taken}
 use Rattle.protocol.specs.declared.card.Card.{Card}
 use Rattle.protocol.specs.declared.card.Role.TheVariants.{Follower}
 use Rattle.laws.proofs.Base.{en, hn, Up, at_same, at_other, below_num, same_num, upto_header, not_upto_header, below_header, not_below_header, and_second}

@@ -9,9 +9,10 @@ use Rattle.frames.specs.Fields.{Words, EntryFields, FrameFields, header_of, word
 use Rattle.protocol.specs.Rack.{Sizes, State, at}
 use Rattle.protocol.specs.Voting as voting
 use Rattle.protocol.specs.Booking as booking
-use Rattle.protocol.specs.Booking.{entry_frame, entry_at, inside, diff_entries, message_frames, shipment, shipment_to, booked}
+use Rattle.frames.specs.Carried.{entry_frame, entry_of}
+use Rattle.protocol.specs.Booking.{entry_at, inside, diff_entries, message_frames, shipment, shipment_to, booked}
 use Rattle.protocol.specs.Taking as taking
-use Rattle.protocol.specs.Taking.{front, body_of, entry_of, rising_between, is_message, is_diff, whole_diff, log_after, kept_up_to}
+use Rattle.protocol.specs.Taking.{front, body_of, rising_between, is_message, is_diff, whole_diff, log_after, kept_up_to}
 use Rattle.protocol.specs.Exchange as exchange
 use Rattle.protocol.specs.Committing as committing
 use Rattle.protocol.specs.Committing.{applied, due_entries}

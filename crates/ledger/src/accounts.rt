@@ -18,7 +18,7 @@ const BOUND_CENTS: i64 = 9000000000000;
 fn within_bounds(cents: i64) -> bool
     ensures { result ≡ bearable cents }
 {
-    -BOUND_CENTS <= cents && cents <= BOUND_CENTS
+    (-BOUND_CENTS..=BOUND_CENTS).contains(&cents)
 }
 
 impl Ledger {
@@ -27,11 +27,7 @@ impl Ledger {
         ensures value { result ≡ reported self.now.balances carrier }
         ensures within { (cents : ℤ) → result ≡ Some cents → bearable cents ≡ true }
     {
-        if carrier < 32 {
-            Some(self.balances[carrier as usize])
-        } else {
-            None
-        }
+        self.balances.get(carrier as usize).copied()
     }
 }
 
@@ -84,14 +80,13 @@ impl Machine for Ledger {
     }
 
     fn unpack(words: Words) -> Posting {
-        if words.1 < 4294967296 && words.2 == 0 {
-            match Posting::new(words.0, words.1 as i64 - BIAS) {
-                Ok(posting) => posting,
-                Err(_) => Self::blank(),
-            }
-        } else {
-            Self::blank()
-        }
+        let (carrier, raised, 0) = words else {
+            return Self::blank();
+        };
+        let Ok(raised) = u32::try_from(raised) else {
+            return Self::blank();
+        };
+        Posting::new(carrier, raised as i64 - BIAS).unwrap_or(Self::blank())
     }
 
     fn blank() -> Posting {

@@ -15,28 +15,25 @@ pub const BIAS: i64 = 2147483648;
 fn in_range(carrier: u64, cents: i64) -> bool
     ensures { result ≡ postable carrier cents }
 {
-    carrier < 32 && -BIAS <= cents && cents < BIAS
+    carrier < 32 && (-BIAS..BIAS).contains(&cents)
 }
 
 impl Posting {
     pub fn new(carrier: u64, cents: i64) -> Result<Posting, Refusal>
         ensures { result ≡ ok_or (drafted (carrier, cents)) OutOfRange }
     {
-        if in_range(carrier, cents) {
-            Ok(Posting {
-                carrier: carrier as u8,
-                cents,
-            })
-        } else {
-            Err(Refusal::OutOfRange)
+        if !in_range(carrier, cents) {
+            return Err(Refusal::OutOfRange);
         }
+        Ok(Posting {
+            carrier: carrier as u8,
+            cents,
+        })
     }
 }
 
 impl fmt::Display for Posting {
     fn fmt<W: fmt::Write>(&self, f: &mut fmt::Formatter<W>) -> fmt::Result {
-        let carrier = self.carrier;
-        let cents = self.cents;
-        write!(f, "post {cents} cents to carrier {carrier}")
+        write!(f, "post {} cents to carrier {}", self.cents, self.carrier)
     }
 }

@@ -9,8 +9,8 @@ use Rattle.frames.specs.Fields.{EntryFields}
 use Rattle.frames.specs.Views.{entry_fields}
 use Rattle.frames.specs.declared.entry.Entry.{Entry}
 use Rattle.protocol.specs.Taking.{kept_up_to}
-use Rattle.logs.specs.Log.{log_of, is_up_to, places_up_to, overlaid, copied_into, copied_count}
-use Rattle.logs.proofs.Logs.{take_clip}
+use Rattle.logs.specs.Log.{log_of, entries_of, is_up_to, kept_places, overlaid, copied_into, copied_count}
+use Rattle.logs.proofs.Logs.{passing}
 
 module _ {A : Type 0} where
   overlay_more : (ks ys : List A) (x : A) → length ks < length ys → set (overlaid ks ys) (length ks) x ≡ overlaid (ks ++ x ∷ []) ys
@@ -32,9 +32,6 @@ module _ {A : Type 0} where
     pub record Copied (xs : List A) (i : ℕ) (ys zs : List A) (k : ℕ) : Type 0 where
       pub count : k ≡ length (filter passes (take i xs))
       pub places : zs ≡ overlaid (filter passes (take i xs)) ys
-
-    pub copied_none : (xs ys : List A) → Copied xs 0 ys ys 0
-    copied_none xs ys = record { count = refl; places = refl }
 
     kept_short : (xs : List A) → length (filter passes xs) ≤ length xs
     kept_short [] = omega arith
@@ -103,76 +100,52 @@ module _ {A : Type 0} where
           ∙ ap (λ zs. get_or zs i x) so_far.places
           ∙ overlay_read (filter passes (take i xs)) ys i x (subst (λ n. n ≤ i) so_far.count copied_behind)
 
-kept_map : (passes : EntryFields → Bool) (xs : List Entry) → map entry_fields (filter (λ (e : Entry). passes (entry_fields e)) xs) ≡ filter passes (map entry_fields xs)
-kept_map passes [] = refl
-kept_map passes (x ∷ xs) = step (passes (entry_fields x)) ∙ ap (λ ys. cond (passes (entry_fields x)) (entry_fields x ∷ ys) ys) (kept_map passes xs)
-  where
-    rest : List Entry
-    rest = filter (λ (e : Entry). passes (entry_fields e)) xs
-
-    step : (b : Bool) → map entry_fields (cond b (x ∷ rest) rest) ≡ cond b (entry_fields x ∷ map entry_fields rest) (map entry_fields rest)
-    step true = refl
-    step false = refl
-
 -- the places that are kept hold the log that is kept
-pub places_log : (base : Header) (part : List Entry) (len : ℕ) → map entry_fields (places_up_to base part len) ≡ kept_up_to base (log_of part len)
-places_log base part len = kept_map (λ (f : EntryFields). header_up_to f.header base) (take len part)
+pub places_log : (base : Header) (log : List Entry) → map entry_fields (kept_places base log) ≡ kept_up_to base (entries_of log)
+places_log base log = passing (λ (f : EntryFields). header_up_to f.header base) log
 
-pub places_count : (base : Header) (part : List Entry) (len : ℕ) → length (places_up_to base part len) ≡ length (kept_up_to base (log_of part len))
-places_count base part len = sym (length-map (places_up_to base part len) entry_fields) ∙ ap length (places_log base part len)
+pub places_count : (base : Header) (log : List Entry) → length (kept_places base log) ≡ length (kept_up_to base (entries_of log))
+places_count base log = sym (length-map (kept_places base log) entry_fields) ∙ ap length (places_log base log)
 
 -- a list over the front of a buffer is read back from it
 pub overlaid_log : (xs ys : List Entry) → log_of (overlaid xs ys) (length xs) ≡ map entry_fields xs
 overlaid_log xs ys = ap (map entry_fields) (take_at xs (drop (length xs) ys) (length xs) refl)
 
-module _ (base : Header) (part : List Entry) (len : ℕ) where
-  -- the end of a cut in place, where n places are used
-  pub cut_done : (n i : ℕ) (zs : List Entry) (k : ℕ) → n ≡ min len (length part) → i ≡ n → Copied (is_up_to base) part i part zs k → (k ≡ length (kept_up_to base (log_of part len))) × (zs ≡ overlaid (places_up_to base part len) part) × (log_of zs k ≡ kept_up_to base (log_of part len))
-  cut_done n i zs k clip end so_far = (count ∙ places_count base part len, places, log)
-    where
-      whole : take i part ≡ take len part
-      whole = take_clip part len i (end ∙ clip)
+-- the end of a cut in place, where n places are used
+module _ (base : Header) (part : List Entry) (used n : ℕ) (zs : List Entry) (k : ℕ) (end : n ≡ used) (so_far : Copied (is_up_to base) part n part zs k) where
+  abbrev held : List Entry
+  held = kept_places base (take used part)
 
-      count : k ≡ length (places_up_to base part len)
-      count = so_far.count ∙ ap (λ ks. length (filter (is_up_to base) ks)) whole
+  cut_used : k ≡ length held
+  cut_used = so_far.count ∙ ap (λ m. length (kept_places base (take m part))) end
 
-      places : zs ≡ overlaid (places_up_to base part len) part
-      places = so_far.places ∙ ap (λ ks. overlaid (filter (is_up_to base) ks) part) whole
+  pub cut_places : zs ≡ overlaid held part
+  cut_places = so_far.places ∙ ap (λ m. overlaid (kept_places base (take m part)) part) end
 
-      log : log_of zs k ≡ kept_up_to base (log_of part len)
-      log =
-          ap (log_of zs) count
-          ∙ ap (λ ys. log_of ys (length (places_up_to base part len))) places
-          ∙ overlaid_log (places_up_to base part len) part
-          ∙ places_log base part len
+  pub cut_count : k ≡ length (kept_up_to base (log_of part used))
+  cut_count = cut_used ∙ places_count base (take used part)
 
-  module _ (out : List Entry) (wanted : ℕ) (counted : wanted ≡ length (kept_up_to base (log_of part len))) where
-    pub copy_refused : length out < wanted → (None ≡ copied_count (length (kept_up_to base (log_of part len))) (length out)) × (out ≡ copied_into (places_up_to base part len) out)
-    copy_refused short = (
-      sym (cond-false _ _ _ (lt-leb _ _ (subst (λ n. length out < n) counted short))),
-      sym (cond-false _ _ _ (lt-leb _ _ (subst (λ n. length out < n) (counted ∙ sym (places_count base part len)) short))),
-    )
+  pub cut_log : log_of zs k ≡ kept_up_to base (log_of part used)
+  cut_log = ap (log_of zs) cut_used ∙ ap (λ ys. log_of ys (length held)) cut_places ∙ overlaid_log held part ∙ places_log base (take used part)
 
-    pub copy_done : (log : List Entry) (i : ℕ) (zs : List Entry) (k : ℕ) → log ≡ take len part → length log ≤ i → wanted ≤ length out → Copied (is_up_to base) log i out zs k → (Some wanted ≡ copied_count (length (kept_up_to base (log_of part len))) (length out)) × (zs ≡ copied_into (places_up_to base part len) out)
-    copy_done log i zs k same past fits so_far = (
-      ap Some counted ∙ sym (cond-true _ _ _ (le-leb _ _ (subst (λ n. n ≤ length out) counted fits))),
-      (copied_all (is_up_to base) log i out zs k so_far past).1
-          ∙ ap (λ xs. overlaid (filter (is_up_to base) xs) out) same
-          ∙ sym (cond-true _ _ _ (le-leb _ _ (subst (λ n. n ≤ length out) (counted ∙ sym (places_count base part len)) fits))),
-    )
+module _ (base : Header) (log out : List Entry) (wanted : ℕ) (counted : wanted ≡ length (kept_up_to base (entries_of log))) where
+  pub copy_refused : length out < wanted → (None ≡ copied_count (length (kept_up_to base (entries_of log))) (length out)) × (out ≡ copied_into (kept_places base log) out)
+  copy_refused short = (
+    sym (cond-false _ _ _ (lt-leb _ _ (subst (λ n. length out < n) counted short))),
+    sym (cond-false _ _ _ (lt-leb _ _ (subst (λ n. length out < n) (counted ∙ sym (places_count base log)) short))),
+  )
 
-    -- a place is left for each that passes
-    pub copy_room : (log : List Entry) (i : ℕ) (zs : List Entry) (k : ℕ) → log ≡ take len part → wanted ≤ length out → Copied (is_up_to base) log i out zs k → (x : Entry) → i < length log → x ≡ get_or log i x → true ≡ is_up_to base x → k < length out
-    copy_room log i zs k same fits so_far x within read test =
-        omega (arith, copied_room (is_up_to base) log i out zs k so_far x within read test, ap (λ xs. length (filter (is_up_to base) xs)) same, places_count base part len, counted)
+  pub copy_done : (i : ℕ) (zs : List Entry) (k : ℕ) → length log ≤ i → wanted ≤ length out → Copied (is_up_to base) log i out zs k → (Some wanted ≡ copied_count (length (kept_up_to base (entries_of log))) (length out)) × (zs ≡ copied_into (kept_places base log) out)
+  copy_done i zs k past fits so_far = (
+    ap Some counted ∙ sym (cond-true _ _ _ (le-leb _ _ (subst (λ n. n ≤ length out) counted fits))),
+    (copied_all (is_up_to base) log i out zs k so_far past).1
+        ∙ sym (cond-true _ _ _ (le-leb _ _ (subst (λ n. n ≤ length out) (counted ∙ sym (places_count base log)) fits))),
+  )
 
-    -- what is read back from a buffer that was long enough
-    pub copy_log : wanted ≤ length out → log_of (copied_into (places_up_to base part len) out) wanted ≡ kept_up_to base (log_of part len)
-    copy_log fits =
-        ap (λ ys. log_of ys wanted) (cond-true _ _ _ (le-leb _ _ (subst (λ n. n ≤ length out) (counted ∙ sym (places_count base part len)) fits)))
-        ∙ ap (log_of (overlaid (places_up_to base part len) out)) (counted ∙ sym (places_count base part len))
-        ∙ overlaid_log (places_up_to base part len) out
-        ∙ places_log base part len
+  -- a place is left for each that passes
+  pub copy_room : (i : ℕ) (zs : List Entry) (k : ℕ) → wanted ≤ length out → Copied (is_up_to base) log i out zs k → (x : Entry) → i < length log → x ≡ get_or log i x → true ≡ is_up_to base x → k < length out
+  copy_room i zs k fits so_far x within read test =
+      omega (arith, copied_room (is_up_to base) log i out zs k so_far x within read test, places_count base log, counted)
 
 -- places past those that are kept stay
 pub overlaid_rest : {A : Type 0} (xs ys : List A) (n : ℕ) → length xs ≤ n → drop n (overlaid xs ys) ≡ drop n ys
@@ -184,8 +157,5 @@ overlaid_rest xs ys n past =
     ∙ drop-drop (n - length xs) (length xs) ys
     ∙ ap (λ k. drop k ys) (sym back)
 
-pub cut_rest : (base : Header) (part : List Entry) (len : ℕ) → drop len (overlaid (places_up_to base part len) part) ≡ drop len part
-cut_rest base part len = overlaid_rest (places_up_to base part len) part len (omega (arith, kept_short (is_up_to base) (take len part), length-take len part))
-
 pub kept_at_most : (base : Header) (part : List Entry) (len : ℕ) → length (kept_up_to base (log_of part len)) ≤ min len (length part)
-kept_at_most base part len = omega (arith, places_count base part len, kept_short (is_up_to base) (take len part), length-take len part)
+kept_at_most base part len = omega (arith, places_count base (take len part), kept_short (is_up_to base) (take len part), length-take len part)

@@ -1,4 +1,3 @@
 pub mod Logs
-pub mod Searches
 pub mod Cuts
 pub mod Deliveries

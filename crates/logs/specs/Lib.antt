@@ -1,2 +1,2 @@
 pub mod Log
-pub mod Spans
+pub mod Places

@@ -2,16 +2,15 @@
 ghost use Rattle.std.specs.Prelude.{◌≡◌, length, filter};
 ghost use Rattle.protocol.specs.Booking.{inside};
 ghost use Rattle.protocol.specs.Committing.{applied, last_header};
-ghost use Rattle.logs.specs.Log.{log_of};
+ghost use Rattle.logs.specs.Log.{entries_of};
 
-use crate::reads::used;
-use crate::span::Span;
+use crate::reads::inside;
 use frames::Entry;
 use machines::Machine;
 use marks::Header;
 
 // How many entries were delivered, and the last one's header.
-#[derive(Clone, Copy)]
+#[derive(Clone, Copy, PartialEq, Eq, Debug)]
 pub struct Delivered {
     pub count: usize,
     pub last: Header,
@@ -25,22 +24,15 @@ pub fn deliver_one<M: Machine>(entry: Entry, machine: &mut M)
 }
 
 // Delivers the entries above `low` and below `high` in turn; `low` is the last header where there is none.
-pub fn deliver<M: Machine>(
-    part: &[Entry],
-    len: usize,
-    low: Header,
-    high: Header,
-    machine: &mut M,
-) -> Delivered
-    ensures count { result.count ≡ length (filter (inside low high) (log_of part.now len)) }
-    ensures last { result.last ≡ last_header low (filter (inside low high) (log_of part.now len)) }
-    ensures state { M.Machine.state machine.new ≡ applied (λ q w. M.Machine.applied q (M.Machine.unpacked w)) (filter (inside low high) (log_of part.now len)) (M.Machine.state machine.old) }
+pub fn deliver<M: Machine>(log: &[Entry], low: Header, high: Header, machine: &mut M) -> Delivered
+    ensures count { result.count ≡ length (filter (inside low high) (entries_of log.now)) }
+    ensures last { result.last ≡ last_header low (filter (inside low high) (entries_of log.now)) }
+    ensures state { M.Machine.state machine.new ≡ applied (λ q w. M.Machine.applied q (M.Machine.unpacked w)) (filter (inside low high) (entries_of log.now)) (M.Machine.state machine.old) }
 {
-    let log = used(part, len);
     let mut count = 0;
     let mut last = low;
     for entry in log {
-        if Span::Inside(low, high).holds(*entry) {
+        if inside(low, high, *entry) {
             deliver_one(*entry, machine);
             count += 1;
             last = entry.header;

@@ -1,11 +1,12 @@
-// A card's log in its part of lent places: `part` is that part, and its first `len` places are used.
+// A card's log in its part of lent places. One that is only read is a slice of its entries, the oldest first; one that
+// is edited is a `Log`.
 #![tactic(auto)]
 
 mod delivery;
 mod edits;
+mod log;
 mod reads;
-mod span;
 
 pub use delivery::{Delivered, deliver, deliver_one};
-pub use edits::{append, keep_up_to};
-pub use reads::{count_up_to, entry_at, inside_count, inside_from, read_up_to};
+pub use log::Log;
+pub use reads::{count_up_to, entry_at, inside, inside_count, read_up_to};

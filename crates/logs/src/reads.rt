@@ -1,98 +1,69 @@
 // Looking into a log, and copying out of it.
-ghost use Rattle.std.specs.Prelude.{◌≡◌, ◌<◌, ◌≤◌, length, take, drop, IfSome, filter};
+ghost use Rattle.std.specs.Prelude.{◌≡◌, length, filter};
 ghost use Rattle.std.specs.Option.{option_map};
 ghost use Rattle.frames.specs.Views.{entry_fields};
+ghost use Rattle.marks.specs.Order.{header_up_to};
 ghost use Rattle.protocol.specs.Booking.{entry_at, inside};
 ghost use Rattle.protocol.specs.Taking.{kept_up_to};
-ghost use Rattle.logs.specs.Log.{log_of, places_up_to, copied_into, copied_count, first_from};
-ghost use Rattle.logs.specs.Spans.{holds};
+ghost use Rattle.logs.specs.Log.{entries_of, kept_places, copied_into, copied_count};
 
-use crate::span::Span;
 use frames::Entry;
 use marks::Header;
 
-// The used places.
-pub(crate) fn used(part: &[Entry], len: usize) -> &[Entry]
-    ensures { result.now ≡ take len part.now }
+// Whether an entry is above `low` and below `high`.
+pub fn inside(low: Header, high: Header, entry: Entry) -> bool
+    ensures { result ≡ inside low high (entry_fields entry) }
 {
-    &part[..len.min(part.len())]
+    low < entry.header && entry.header < high
+}
+
+// Whether an entry is at or below `base`.
+pub(crate) fn is_up_to(base: Header, entry: Entry) -> bool
+    ensures { result ≡ header_up_to entry.header base }
+{
+    entry.header <= base
 }
 
 // The entry with this header, looked for from the newest end.
-pub fn entry_at(part: &[Entry], len: usize, header: Header) -> Option<Entry>
-    ensures { option_map entry_fields result ≡ entry_at header (log_of part.now len) }
+pub fn entry_at(log: &[Entry], header: Header) -> Option<Entry>
+    ensures { option_map entry_fields result ≡ entry_at header (entries_of log.now) }
 {
-    let log = used(part, len);
-    for i in (0..log.len()).rev() {
-        let entry = log[i];
-        if Span::Only(header).holds(entry) {
-            return Some(entry);
-        }
-    }
-    None
-}
-
-// How many entries a span holds.
-fn count(part: &[Entry], len: usize, span: Span) -> usize
-    ensures { result ≡ length (filter (holds span) (log_of part.now len)) }
-{
-    let log = used(part, len);
-    let mut count = 0;
-    for entry in log {
-        if span.holds(*entry) {
-            count += 1;
-        }
-    }
-    count
+    log.iter()
+        .rev()
+        .find(|entry| entry.header == header)
+        .copied()
 }
 
 // How many entries are above `low` and below `high`.
-pub fn inside_count(part: &[Entry], len: usize, low: Header, high: Header) -> usize
-    ensures { result ≡ length (filter (inside low high) (log_of part.now len)) }
+pub fn inside_count(log: &[Entry], low: Header, high: Header) -> usize
+    ensures { result ≡ length (filter (inside low high) (entries_of log.now)) }
 {
-    count(part, len, Span::Inside(low, high))
+    log.iter()
+        .filter(|entry| inside(low, high, **entry))
+        .count()
 }
 
 // How many entries are at or below `base`.
-pub fn count_up_to(part: &[Entry], len: usize, base: Header) -> usize
-    ensures { result ≡ length (kept_up_to base (log_of part.now len)) }
+pub fn count_up_to(log: &[Entry], base: Header) -> usize
+    ensures { result ≡ length (kept_up_to base (entries_of log.now)) }
 {
-    count(part, len, Span::UpTo(base))
-}
-
-// The index of the first entry from `start` on that is above `low` and below `high`.
-pub fn inside_from(
-    part: &[Entry],
-    len: usize,
-    start: usize,
-    low: Header,
-    high: Header,
-) -> Option<usize>
-    ensures value { result ≡ first_from (inside low high) start (drop start (log_of part.now len)) }
-    ensures within { IfSome result (λ k. (start ≤ k) × (k < len) × (k < length part.now)) }
-{
-    let log = used(part, len);
-    for i in start..log.len() {
-        if Span::Inside(low, high).holds(log[i]) {
-            return Some(i);
-        }
-    }
-    None
+    log.iter().filter(|entry| is_up_to(base, **entry)).count()
 }
 
 // Copies the entries at or below `base` into `out`, or none where they do not fit.
-pub fn read_up_to(part: &[Entry], len: usize, base: Header, out: &mut [Entry]) -> Option<usize>
-    ensures answer { result ≡ copied_count (length (kept_up_to base (log_of part.now len))) (length out.old) }
-    ensures places { out.new ≡ copied_into (places_up_to base part.now len) out.old }
+pub fn read_up_to(log: &[Entry], base: Header, out: &mut [Entry]) -> Option<usize>
+    ensures answer { result ≡ copied_count (length (kept_up_to base (entries_of log.now))) (length out.old) }
+    ensures places { out.new ≡ copied_into (kept_places base log.now) out.old }
 {
-    let wanted = count_up_to(part, len, base);
+    let wanted = count_up_to(log, base);
     if out.len() < wanted {
         return None;
     }
-    let log = used(part, len);
+    // Kept: tried over `out.iter_mut().zip(..)`, and the proof did not close: of such a loop it is not known what it wrote. A
+    // count by `enumerate` over the filtered log would hide which entries are copied from the invariant.
     let mut copied = 0;
     for entry in log {
-        if Span::UpTo(base).holds(*entry) {
+        if is_up_to(base, *entry) {
             out[copied] = *entry;
             copied += 1;
         }

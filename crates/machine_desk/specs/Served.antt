@@ -13,11 +13,11 @@ use Rattle.machine_desk.specs.declared.requests.Request.TheVariants.{Ask, Post, 
 abbrev pub board_after : Request → List ℕ → List ℕ
 board_after (Ask act load carrier) s = performed loads.acted 0 (asked_of act load carrier) s
 board_after (Post carrier cents times) s = s
-board_after (BoardWords a b c) s = performed loads.acted 0 (option_map bookings.unpacked (words_of a b c)) s
-board_after (LedgerWords a b c) s = s
+board_after (BoardWords w) s = performed loads.acted 0 (option_map bookings.unpacked (words_of w)) s
+board_after (LedgerWords w) s = s
 
 abbrev pub ledger_after : Request → List ℤ → List ℤ
 ledger_after (Ask act load carrier) s = s
 ledger_after (Post carrier cents times) s = posted_times (posted_of carrier cents times) s
-ledger_after (BoardWords a b c) s = s
-ledger_after (LedgerWords a b c) s = performed balances.posted 0 (option_map postings.unpacked (words_of a b c)) s
+ledger_after (BoardWords w) s = s
+ledger_after (LedgerWords w) s = performed balances.posted 0 (option_map postings.unpacked (words_of w)) s

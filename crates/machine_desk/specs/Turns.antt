@@ -1,7 +1,6 @@
 -- The payload that a line's numbers make, and the ledger after a posting made several times.
 use Rattle.std.specs.Prelude.{ℕ, zero, suc, List, ℤ, Some, None, Option}
 use Rattle.board.specs.declared.bookings.Act.{Act}
-use Rattle.board.specs.declared.bookings.BoardPayload.{BoardPayload}
 use Rattle.board.specs.Bookings as bookings
 use Rattle.ledger.specs.declared.postings.Posting.{Posting}
 use Rattle.ledger.specs.Postings as postings
@@ -12,11 +11,11 @@ abbrev pub chained : {X Y : Type 0} → Option X → (X → Option Y) → Option
 chained None f = None
 chained (Some x) f = f x
 
-abbrev pub asked_of : Act → ℤ → ℤ → Option BoardPayload
+abbrev pub asked_of : Act → ℤ → ℤ → Option bookings.Payload
 asked_of act load carrier = chained (unsigned_of load) (λ l. chained (unsigned_of carrier) (λ c. bookings.drafted (l, act, c)))
 
-abbrev pub words_of : ℤ → ℤ → ℤ → Option (ℕ × ℕ × ℕ)
-words_of a b c = chained (unsigned_of a) (λ x. chained (unsigned_of b) (λ y. chained (unsigned_of c) (λ z. Some (x, y, z))))
+abbrev pub words_of : (ℤ × ℤ × ℤ) → Option (ℕ × ℕ × ℕ)
+words_of (a, b, c) = chained (unsigned_of a) (λ x. chained (unsigned_of b) (λ y. chained (unsigned_of c) (λ z. Some (x, y, z))))
 
 abbrev pub posting_of : ℤ → ℤ → Option Posting
 posting_of carrier cents = chained (unsigned_of carrier) (λ k. chained (signed_of cents) (λ z. postings.drafted (k, z)))

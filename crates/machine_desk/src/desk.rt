@@ -4,13 +4,12 @@ ghost use Rattle.board.specs.Loads.{all_open};
 ghost use Rattle.ledger.specs.Balances.{opening};
 ghost use Rattle.machine_desk.specs.Served.{board_after, ledger_after};
 
-use crate::replies::Reply;
+use crate::replies::{Answer, Reply};
 use crate::requests::{Request, read};
 use crate::turns::{ask, deliver, post};
 use board::{Board, BoardPayload};
 use ledger::{Ledger, Posting};
 use machines::Machine;
-use refusals::Refusal;
 
 #[derive(Drop)]
 pub struct Desk {
@@ -30,23 +29,20 @@ impl Desk {
     }
 
     pub(crate) fn answer(&mut self, line: &str) -> Reply {
-        let Some(request) = read(line) else {
-            return Reply::Unreadable;
-        };
-        match self.serve(request) {
-            Ok(reply) => reply,
-            Err(refusal) => Reply::Refused(refusal),
+        match read(line) {
+            Some(request) => self.serve(request),
+            None => Ok(Answer::Unreadable),
         }
     }
 
-    fn serve(&mut self, request: Request) -> Result<Reply, Refusal>
+    fn serve(&mut self, request: Request) -> Reply
         ensures board { self.new.board.holders ≡ board_after request self.old.board.holders }
         ensures ledger { self.new.ledger.balances ≡ ledger_after request self.old.ledger.balances }
     {
         match request {
             Request::Ask { act, load, carrier } => {
                 let payload = ask(&mut self.board, act, load, carrier)?;
-                Ok(self.board_reply(payload))
+                Ok(self.of_board(payload))
             }
             Request::Post {
                 carrier,
@@ -54,28 +50,25 @@ impl Desk {
                 times,
             } => {
                 let posting = post(&mut self.ledger, carrier, cents, times)?;
-                Ok(self.ledger_reply(posting))
+                Ok(self.of_ledger(posting))
             }
-            Request::BoardWords(a, b, c) => {
-                let payload = deliver::<Board>(&mut self.board, a, b, c)?;
-                Ok(self.board_reply(payload))
+            Request::BoardWords(words) => {
+                let payload = deliver::<Board>(&mut self.board, words)?;
+                Ok(self.of_board(payload))
             }
-            Request::LedgerWords(a, b, c) => {
-                let posting = deliver::<Ledger>(&mut self.ledger, a, b, c)?;
-                Ok(self.ledger_reply(posting))
+            Request::LedgerWords(words) => {
+                let posting = deliver::<Ledger>(&mut self.ledger, words)?;
+                Ok(self.of_ledger(posting))
             }
         }
     }
 
-    fn board_reply(&self, payload: BoardPayload) -> Reply {
-        let holder = match payload {
-            BoardPayload::Blank => None,
-            BoardPayload::Asked(booking) => self.board.holder(booking.load),
-        };
-        Reply::Board(payload, holder)
+    fn of_board(&self, payload: BoardPayload) -> Answer {
+        let holder = payload.and_then(|booking| self.board.holder(booking.load));
+        Answer::Board(payload, holder)
     }
 
-    fn ledger_reply(&self, posting: Posting) -> Reply {
-        Reply::Ledger(posting, self.ledger.balance_cents(posting.carrier).unwrap())
+    fn of_ledger(&self, posting: Posting) -> Answer {
+        Answer::Ledger(posting, self.ledger.balance_cents(posting.carrier).unwrap())
     }
 }

@@ -8,24 +8,25 @@ mod requests;
 mod turns;
 
 use desk::Desk;
-use replies::Reply;
+use replies::Answer;
 use std::io;
 use std::io::{BufRead, BufReader};
 
 fn main(rt: HostRuntime) -> io::Result<()> {
     let mut desk = Desk::open();
+    // Kept: each desk's main has this loop. Each answers a line that is no text by its own reply type, and some of them on
+    // the heap; a crate for one function of three arms would be longer than the arms.
     for line in BufReader::new(rt.alloc(), rt.stdin())?.lines(rt.alloc()) {
         let reply = match line {
             Ok(text) => desk.answer(text.as_str()),
-            Err(e) => {
-                // A line that is no text is answered like any other that cannot be read.
-                if e.kind() != io::ErrorKind::InvalidData {
-                    return Err(e);
-                }
-                Reply::Unreadable
-            }
+            // A line that is no text is answered like any other that cannot be read.
+            Err(e) if e.kind() == io::ErrorKind::InvalidData => Ok(Answer::Unreadable),
+            Err(e) => return Err(e),
         };
-        println!(rt; "{reply}")?;
+        match reply {
+            Ok(answer) => println!(rt; "{answer}")?,
+            Err(refusal) => println!(rt; "{refusal}")?,
+        }
     }
     Ok(())
 }

@@ -1,49 +1,49 @@
 // What the desk answers to a line.
-use board::BoardPayload;
+use board::{BoardPayload, Shown};
 use ledger::Posting;
 use refusals::Refusal;
 use std::fmt;
 
 #[derive(Clone, Copy)]
-pub enum Reply {
+pub enum Answer {
     // The payload, and who then holds its load.
     Board(BoardPayload, Option<u16>),
     // The posting, and its carrier's balance in cents after it.
     Ledger(Posting, i64),
-    Refused(Refusal),
     Unreadable,
 }
 
-impl fmt::Display for Reply {
+pub type Reply = Result<Answer, Refusal>;
+
+impl fmt::Display for Answer {
     fn fmt<W: fmt::Write>(&self, f: &mut fmt::Formatter<W>) -> fmt::Result {
         match *self {
-            Reply::Board(payload, holder) => show_board(f, payload, holder),
-            Reply::Ledger(posting, cents) => {
-                let carrier = posting.carrier;
-                write!(f, "{posting}; carrier {carrier} stands at {cents} cents")
+            Answer::Board(None, _) => write!(f, "{}; the board is as it was", Shown(None)),
+            Answer::Board(Some(booking), Some(carrier)) => {
+                write!(
+                    f,
+                    "{booking}; load {} is held by carrier {carrier}",
+                    booking.load
+                )
             }
-            Reply::Refused(refusal) => write!(f, "{refusal}"),
-            Reply::Unreadable => {
+            Answer::Board(Some(booking), None) => write!(
+                f,
+                "{booking}; load {} is open",
+                booking.load
+            ),
+            Answer::Ledger(posting, cents) => {
+                write!(
+                    f,
+                    "{posting}; carrier {} stands at {cents} cents",
+                    posting.carrier
+                )
+            }
+            Answer::Unreadable => {
                 write!(
                     f,
                     "unreadable: a line is board book|release LOAD CARRIER, ledger post CARRIER CENTS [TIMES], or board|ledger words W W W"
                 )
             }
         }
-    }
-}
-
-fn show_board<W: fmt::Write>(
-    f: &mut fmt::Formatter<W>,
-    payload: BoardPayload,
-    holder: Option<u16>,
-) -> fmt::Result {
-    let BoardPayload::Asked(booking) = payload else {
-        return write!(f, "{payload}; the board is as it was");
-    };
-    let load = booking.load;
-    match holder {
-        Some(carrier) => write!(f, "{booking}; load {load} is held by carrier {carrier}"),
-        None => write!(f, "{booking}; load {load} is open"),
     }
 }

@@ -14,8 +14,8 @@ pub enum Request {
         cents: i128,
         times: i128,
     },
-    BoardWords(i128, i128, i128),
-    LedgerWords(i128, i128, i128),
+    BoardWords((i128, i128, i128)),
+    LedgerWords((i128, i128, i128)),
 }
 
 // None where the line asks nothing of the desk.
@@ -25,54 +25,31 @@ pub(crate) fn read(line: &str) -> Option<Request> {
     let verb = words.next()?;
     let first = number(words.next()?)?;
     let second = number(words.next()?)?;
-    match words.next() {
-        None => read_payload(machine, verb, first, second),
-        Some(word) => {
-            let third = number(word)?;
-            if words.next().is_some() {
-                return None;
-            }
-            read_longer(machine, verb, first, second, third)
-        }
+    let third = match words.next() {
+        Some(word) => Some(number(word)?),
+        None => None,
+    };
+    if words.next().is_some() {
+        return None;
     }
-}
-
-fn read_payload(machine: &str, verb: &str, first: i128, second: i128) -> Option<Request> {
-    match (machine, verb) {
-        ("board", "book") => Some(Request::Ask {
+    match (machine, verb, third) {
+        ("board", "book", None) => Some(Request::Ask {
             act: Act::Book,
             load: first,
             carrier: second,
         }),
-        ("board", "release") => Some(Request::Ask {
+        ("board", "release", None) => Some(Request::Ask {
             act: Act::Release,
             load: first,
             carrier: second,
         }),
-        ("ledger", "post") => Some(Request::Post {
+        ("ledger", "post", times) => Some(Request::Post {
             carrier: first,
             cents: second,
-            times: 1,
+            times: times.unwrap_or(1),
         }),
-        _ => None,
-    }
-}
-
-fn read_longer(
-    machine: &str,
-    verb: &str,
-    first: i128,
-    second: i128,
-    third: i128,
-) -> Option<Request> {
-    match (machine, verb) {
-        ("ledger", "post") => Some(Request::Post {
-            carrier: first,
-            cents: second,
-            times: third,
-        }),
-        ("board", "words") => Some(Request::BoardWords(first, second, third)),
-        ("ledger", "words") => Some(Request::LedgerWords(first, second, third)),
+        ("board", "words", Some(third)) => Some(Request::BoardWords((first, second, third))),
+        ("ledger", "words", Some(third)) => Some(Request::LedgerWords((first, second, third))),
         _ => None,
     }
 }

@@ -6,7 +6,7 @@ ghost use Rattle.machines.specs.Turn.{performed};
 ghost use Rattle.board.specs.Loads.{acted};
 ghost use Rattle.machine_desk.specs.Turns.{asked_of, words_of, posting_of, posted_of, repeated, posted_times};
 
-use crate::numbers::{repeats, signed, unsigned};
+use crate::numbers::{held, repeats};
 use board::{Act, Board, BoardPayload};
 use ledger::{Ledger, Posting};
 use machines::{Machine, Words, perform};
@@ -16,8 +16,8 @@ pub fn ask(board: &mut Board, act: Act, load: i128, carrier: i128) -> Result<Boa
     ensures value { result ≡ ok_or (asked_of act load carrier) OutOfRange }
     ensures after { board.new.holders ≡ performed acted 0 (asked_of act load carrier) board.old.holders }
 {
-    let load = unsigned(load)?;
-    let carrier = unsigned(carrier)?;
+    let load = held::<u64>(load)?;
+    let carrier = held::<u64>(carrier)?;
     perform::<Board>(board, 0, (load, act, carrier))
 }
 
@@ -39,8 +39,8 @@ pub fn post(
 fn posting_of(carrier: i128, cents: i128) -> Result<Posting, Refusal>
     ensures { result ≡ ok_or (posting_of carrier cents) OutOfRange }
 {
-    let carrier = unsigned(carrier)?;
-    let cents = signed(cents)?;
+    let carrier = held::<u64>(carrier)?;
+    let cents = held::<i64>(cents)?;
     Posting::new(carrier, cents)
 }
 
@@ -55,23 +55,19 @@ fn post_times(ledger: &mut Ledger, posting: Posting, times: u16)
 // Applies what three words unpack to.
 pub fn deliver<M: Machine>(
     machine: &mut M,
-    a: i128,
-    b: i128,
-    c: i128,
+    numbers: (i128, i128, i128),
 ) -> Result<M::Payload, Refusal>
-    ensures value { result ≡ ok_or (option_map M.Machine.unpacked (words_of a b c)) OutOfRange }
-    ensures after { M.Machine.state machine.new ≡ performed M.Machine.applied 0 (option_map M.Machine.unpacked (words_of a b c)) (M.Machine.state machine.old) }
+    ensures value { result ≡ ok_or (option_map M.Machine.unpacked (words_of numbers)) OutOfRange }
+    ensures after { M.Machine.state machine.new ≡ performed M.Machine.applied 0 (option_map M.Machine.unpacked (words_of numbers)) (M.Machine.state machine.old) }
 {
-    let payload = M::unpack(words(a, b, c)?);
+    let payload = M::unpack(words(numbers)?);
     machine.apply(0, payload);
     Ok(payload)
 }
 
-fn words(a: i128, b: i128, c: i128) -> Result<Words, Refusal>
-    ensures { result ≡ ok_or (words_of a b c) OutOfRange }
+fn words(numbers: (i128, i128, i128)) -> Result<Words, Refusal>
+    ensures { result ≡ ok_or (words_of numbers) OutOfRange }
 {
-    let a = unsigned(a)?;
-    let b = unsigned(b)?;
-    let c = unsigned(c)?;
-    Ok((a, b, c))
+    let (a, b, c) = numbers;
+    Ok((held::<u64>(a)?, held::<u64>(b)?, held::<u64>(c)?))
 }

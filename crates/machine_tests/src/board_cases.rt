@@ -1,5 +1,5 @@
 // The board: its ranges, its turns, its packing, its words for a reader.
-use board::{Act, Board, BoardPayload, Booking, lone_board};
+use board::{Act, Board, Booking, Shown, lone_board};
 use machines::{Item, Machine, through_words};
 use refusals::Refusal;
 use std::test::Fail;
@@ -41,27 +41,27 @@ fn turns(rt: HostRuntime) -> Result<(), Fail> {
     for load in 0..64 {
         assert_eq!(rt; board.holder(load), None);
     }
-    // load, act, carrier, and who holds the load afterwards (0: open)
+    // load, act, carrier, and who holds the load afterwards, if any
     let table = [
-        (0, BOOK, 1, 1),
-        (0, BOOK, 1, 1),
-        (0, BOOK, 2, 1),
-        (0, RELEASE, 2, 1),
-        (0, RELEASE, 1, 0),
-        (0, RELEASE, 1, 0),
-        (63, RELEASE, 65535, 0),
-        (63, BOOK, 65535, 65535),
-        (63, BOOK, 1, 65535),
-        (62, BOOK, 1, 1),
-        (63, RELEASE, 65535, 0),
-        (62, RELEASE, 65535, 1),
+        (0, BOOK, 1, Some(1)),
+        (0, BOOK, 1, Some(1)),
+        (0, BOOK, 2, Some(1)),
+        (0, RELEASE, 2, Some(1)),
+        (0, RELEASE, 1, None),
+        (0, RELEASE, 1, None),
+        (63, RELEASE, 65535, None),
+        (63, BOOK, 65535, Some(65535)),
+        (63, BOOK, 1, Some(65535)),
+        (62, BOOK, 1, Some(1)),
+        (63, RELEASE, 65535, None),
+        (62, RELEASE, 65535, Some(1)),
     ];
     for (queue, (load, act, carrier, after)) in table.into_iter().enumerate() {
         let payload = <Board as Machine>::make((load, act, carrier))?;
         board.apply((queue % 16) as u8, payload);
-        assert_eq!(rt; board.holder((load % 64) as u8).unwrap_or(0), after);
+        assert_eq!(rt; board.holder((load % 64) as u8), after);
         board.apply(0, <Board as Machine>::blank());
-        assert_eq!(rt; board.holder((load % 64) as u8).unwrap_or(0), after);
+        assert_eq!(rt; board.holder((load % 64) as u8), after);
     }
     assert_eq!(rt; board.holder(64), None);
     assert_eq!(rt; board.holder(255), None);
@@ -76,7 +76,7 @@ fn words(rt: HostRuntime) {
     );
     for w in [(0, 1, 1), (63, 2, 65535), (5, 1, 300)] {
         let payload = <Board as Machine>::unpack(w);
-        assert_ne!(rt; payload, BoardPayload::Blank);
+        assert_ne!(rt; payload, None);
         assert_eq!(rt; <Board as Machine>::pack(payload), w);
         assert_eq!(rt; through_words::<Board>(payload), payload);
     }
@@ -90,7 +90,7 @@ fn words(rt: HostRuntime) {
         (u64::MAX, u64::MAX, u64::MAX),
     ];
     for w in blanks {
-        assert_eq!(rt; <Board as Machine>::unpack(w), BoardPayload::Blank);
+        assert_eq!(rt; <Board as Machine>::unpack(w), None);
     }
     assert_eq!(rt; Act::Book.number(), 1);
     assert_eq!(rt; Act::Release.number(), 2);
@@ -119,11 +119,11 @@ fn alone(rt: HostRuntime) {
 #[test]
 fn printed(rt: HostRuntime) -> Result<(), Fail> {
     let heap = rt.alloc();
-    let booked = <Board as Machine>::make((3, BOOK, 17))?.to_string(heap)?;
+    let booked = Shown(<Board as Machine>::make((3, BOOK, 17))?).to_string(heap)?;
     assert!(rt; booked.as_str() == "book load 3 for carrier 17");
-    let released = <Board as Machine>::make((3, RELEASE, 17))?.to_string(heap)?;
+    let released = Shown(<Board as Machine>::make((3, RELEASE, 17))?).to_string(heap)?;
     assert!(rt; released.as_str() == "release load 3 by carrier 17");
-    let blank = <Board as Machine>::blank().to_string(heap)?;
+    let blank = Shown(<Board as Machine>::blank()).to_string(heap)?;
     assert!(rt; blank.as_str() == "blank");
     Ok(())
 }

@@ -1,2 +1,1 @@
 pub mod Guarded
-pub mod Carried

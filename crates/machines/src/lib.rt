@@ -5,6 +5,8 @@ mod meaning;
 mod runs;
 mod turns;
 
-pub use meaning::{Machine, Words};
+// A packed payload.
+pub use frames::Words;
+pub use meaning::Machine;
 pub use runs::{Item, lone};
 pub use turns::{perform, through_words};

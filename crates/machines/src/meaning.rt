@@ -3,10 +3,8 @@ ghost use Rattle.std.specs.Prelude.{◌≡◌, ℕ, Option as Perhaps, ◌≢◌
 ghost use Rattle.std.specs.Option.{ok_or};
 ghost use Rattle.refusals.specs.declared.Refusal.TheVariants.{OutOfRange};
 
+use frames::Words;
 use refusals::Refusal;
-
-// A packed payload.
-pub type Words = (u64, u64, u64);
 
 pub trait Machine: Sized {
     // What a payload is made from, in ranges or not.

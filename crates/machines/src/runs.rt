@@ -2,7 +2,8 @@
 ghost use Rattle.std.specs.Prelude.{◌≡◌};
 ghost use Rattle.machines.specs.Lone.{alone};
 
-use crate::meaning::{Machine, Words};
+use crate::meaning::Machine;
+use frames::Words;
 
 #[derive(Clone, Copy, PartialEq, Eq, Debug)]
 pub struct Item {

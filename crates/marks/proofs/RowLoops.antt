@@ -1,23 +1,10 @@
--- What a loop over rows keeps, and that the row it ends with is the largest.
+-- The largest row is one of the rows, and no row is above it.
 use Rattle.std.proofs.Common.{◌≡◌, ℕ, zero, suc, ◌+◌, ◌<◌, Bool, true, false, cond, ◌&&◌, ◌⊎◌, List, [], ◌∷◌, length, get_or, drop, sym, refl, ap, ◌∙◌, inl, inr, ⊎_elim, arith}
 use Rattle.std.proofs.lemmas.Bool.{true≢false}
-use Rattle.std.proofs.lemmas.List.{at_drop_more}
 use Rattle.marks.specs.Order.{TotalOrder}
-use Rattle.marks.specs.Rows.{largest_of, Largest, count_between}
+use Rattle.marks.specs.Rows.{largest_of, Largest}
 
 module _ {A : Type 0} (up_to : A → A → Bool) where
-  pub count_more : (low high : A) (xs : List A) (i : ℕ) (x : A) → i < length xs → x ≡ get_or xs i x → count_between up_to low high (drop i xs) ≡ cond (up_to low x && up_to x high) 1 0 + count_between up_to low high (drop (i + 1) xs)
-  count_more low high xs i x within read =
-      at_drop_more (count_between up_to low high) xs i x within
-      ∙ ap (λ y. count_between up_to low high (y ∷ drop (i + 1) xs)) (sym read)
-
-  -- one row more, where m is what the test b chose
-  pub largest_more : (most m : A) (xs : List A) (i : ℕ) (x : A) (b : Bool) (end : A) → i < length xs → x ≡ get_or xs i x → b ≡ up_to most x → m ≡ cond b x most → largest_of up_to most (drop i xs) ≡ end → largest_of up_to m (drop (i + 1) xs) ≡ end
-  largest_more most m xs i x b end within read test chosen so_far =
-      ap (λ y. largest_of up_to y (drop (i + 1) xs)) (chosen ∙ ap (λ t. cond t x most) test)
-      ∙ sym (at_drop_more (largest_of up_to most) xs i x within ∙ ap (λ y. largest_of up_to most (y ∷ drop (i + 1) xs)) (sym read))
-      ∙ so_far
-
   module _ (order : TotalOrder up_to) where
     self : (x : A) → up_to x x ≡ true
     self x = ⊎_elim (λ e. e) (λ e. e) (order.compares x x)

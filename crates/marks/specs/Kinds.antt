@@ -20,9 +20,12 @@ epoch_of h = (h.0, h.1)
 abbrev pub is_null_epoch : Epoch → Bool
 is_null_epoch e = e.0 == 0 && e.1 == 0
 
+abbrev pub is_card : ℕ → Bool
+is_card n = nat_le 1 n && nat_le n 7
+
 -- a round of 32 bits, led by a card 1 to 7
 abbrev pub is_led_epoch : Epoch → Bool
-is_led_epoch e = nat_lt e.0 4294967296 && (nat_le 1 e.1 && nat_le e.1 7)
+is_led_epoch e = nat_lt e.0 4294967296 && is_card e.1
 
 abbrev pub is_epoch : Epoch → Bool
 is_epoch e = is_null_epoch e || is_led_epoch e

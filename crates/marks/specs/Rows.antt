@@ -1,10 +1,9 @@
 -- The largest of some rows, and how many rows lie between two marks: one text for every kind of mark.
-use Rattle.std.specs.Prelude.{◌≡◌, ℕ, ◌+◌, ◌<◌, Bool, true, cond, ◌&&◌, List, [], ◌∷◌, length, get_or, slice_index_or}
+use Rattle.std.specs.Prelude.{◌≡◌, ℕ, ◌+◌, ◌<◌, Bool, true, cond, ◌&&◌, List, [], ◌∷◌, length, get_or, slice_index_or, fold}
 
 module _ {A : Type 0} (up_to : A → A → Bool) where
   abbrev pub largest_of : A → List A → A
-  largest_of x [] = x
-  largest_of x (y ∷ ys) = largest_of (cond (up_to x y) y x) ys
+  largest_of = fold (λ most row. cond (up_to most row) row most)
 
   -- one of the rows, and no row is above it
   pub record Largest (rows : List A) (r : A) : Type 0 where

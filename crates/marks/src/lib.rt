@@ -2,7 +2,7 @@
 #![tactic(auto)]
 
 ghost use Rattle.std.specs.Prelude.{◌≡◌};
-ghost use Rattle.marks.specs.Kinds.{is_epoch, is_header, is_vote};
+ghost use Rattle.marks.specs.Kinds.{is_card, is_epoch, is_header, is_vote};
 ghost use Rattle.marks.specs.Least.{least_epoch, LeastLedAbove};
 ghost use Rattle.marks.specs.Samples.{LeastEpochSamples};
 
@@ -16,21 +16,28 @@ pub type Header = (u32, u8, u32);
 
 pub type Vote = (Epoch, Header);
 
-pub const LAST_ROUND: u32 = 4294967295;
+pub const LAST_ROUND: u32 = u32::MAX;
 
-pub const LAST_COUNT: u32 = 4294967294;
+pub const LAST_COUNT: u32 = u32::MAX - 1;
+
+// The cards of the largest rack.
+pub fn is_card(n: u8) -> bool
+    ensures { result ≡ is_card n }
+{
+    (1..=7).contains(&n)
+}
 
 // Only the null epoch is led by no card.
 pub fn is_epoch(e: Epoch) -> bool
     ensures { result ≡ is_epoch e }
 {
-    e == (0, 0) || (1 <= e.1 && e.1 <= 7)
+    e == (0, 0) || is_card(e.1)
 }
 
 pub fn is_header(h: Header) -> bool
     ensures { result ≡ is_header h }
 {
-    h == (0, 0, 0) || (1 <= h.1 && h.1 <= 7 && h.2 <= LAST_COUNT)
+    h == (0, 0, 0) || (is_card(h.1) && h.2 <= LAST_COUNT)
 }
 
 pub fn is_vote(v: Vote) -> bool
@@ -45,15 +52,14 @@ pub fn least_epoch(card: u8, above: Epoch) -> Result<Epoch, Refusal>
     ensures least { LeastLedAbove card above result }
 {
     let (round, leader) = above;
-    if card < 1 || 7 < card {
-        Err(Refusal::NoSuchCard)
-    } else if leader < card {
-        Ok((round, card))
-    } else if round < LAST_ROUND {
-        Ok((round + 1, card))
-    } else {
-        Err(Refusal::UsedUp)
+    if !is_card(card) {
+        return Err(Refusal::NoSuchCard);
     }
+    if leader < card {
+        return Ok((round, card));
+    }
+    let next = round.checked_add(1).ok_or(Refusal::UsedUp)?;
+    Ok((next, card))
 }
 
 // The definitions at small values.

@@ -4,6 +4,8 @@ ghost use Rattle.marks.specs.Order.{TotalOrder, header_up_to, vote_up_to};
 ghost use Rattle.marks.specs.Rows.{largest_of, Largest, count_between};
 ghost use Rattle.marks.specs.Orders.{header_order, vote_order};
 
+use crate::{Header, Vote};
+
 pub trait Mark: Copy {
     // whether a mark is at most another
     ghost up_to: { Self → Self → Bool };
@@ -14,22 +16,22 @@ pub trait Mark: Copy {
     ghost order: { TotalOrder up_to };
 }
 
-impl Mark for (u32, u8, u32) {
+impl Mark for Header {
     ghost up_to = { header_up_to };
 
     ghost order = { header_order };
 
-    fn up_to(self, other: (u32, u8, u32)) -> bool {
+    fn up_to(self, other: Header) -> bool {
         self <= other
     }
 }
 
-impl Mark for ((u32, u8), (u32, u8, u32)) {
+impl Mark for Vote {
     ghost up_to = { vote_up_to };
 
     ghost order = { vote_order };
 
-    fn up_to(self, other: ((u32, u8), (u32, u8, u32))) -> bool {
+    fn up_to(self, other: Vote) -> bool {
         other >= self
     }
 }
@@ -39,24 +41,17 @@ pub fn largest<T: Mark>(first: T, rows: &[T]) -> T
     ensures value { result ≡ largest_of T.up_to first rows.now }
     ensures largest { Largest T.up_to (first ∷ rows.now) result }
 {
-    let mut most = first;
-    for row in rows {
-        if most.up_to(*row) {
-            most = *row;
-        }
-    }
-    most
+    rows.iter().fold(
+        first,
+        |most, row| if most.up_to(*row) { *row } else { most },
+    )
 }
 
 // How many rows lie from `low` to `high`, ends counted.
 pub fn count_between<T: Mark>(low: T, high: T, rows: &[T]) -> usize
     ensures { result ≡ count_between T.up_to low high rows.now }
 {
-    let mut count = 0;
-    for row in rows {
-        if low.up_to(*row) && row.up_to(high) {
-            count += 1;
-        }
-    }
-    count
+    rows.iter()
+        .filter(|row| low.up_to(**row) && row.up_to(high))
+        .count()
 }

@@ -1,22 +1,18 @@
 -- What a word of text says as a decimal number.
-use Rattle.std.specs.Prelude.{ℕ, ◌+◌, ◌-◌, ◌*◌, min, Bool, true, cond, ◌&&◌, List, [], ◌∷◌, length, drop, ℤ, pos, neg_ℤ, Some, None, Option, ◌==◌, nat_le, slice_index}
+use Rattle.std.specs.Prelude.{ℕ, ◌+◌, ◌-◌, ◌*◌, min, Bool, cond, ◌&&◌, List, length, drop, fold, ℤ, pos, neg_ℤ, Some, None, Option, ◌==◌, nat_le, slice_index}
+use Rattle.std.specs.List.{list_all}
 use Rattle.std.specs.Option.{option_map}
 
 abbrev pub is_digit : ℕ → Bool
 is_digit b = nat_le 48 b && nat_le b 57
 
-abbrev pub all_digits : List ℕ → Bool
-all_digits [] = true
-all_digits (b ∷ bs) = is_digit b && all_digits bs
-
 -- the number that digits write after v
 abbrev pub value_after : ℕ → List ℕ → ℕ
-value_after v [] = v
-value_after v (b ∷ bs) = value_after (10 * v + (b - 48)) bs
+value_after = fold (λ v b. 10 * v + (b - 48))
 
 -- one digit or more; every number past 64 bits counts as the first of them
 abbrev pub magnitude_in : List ℕ → Option ℕ
-magnitude_in bs = cond (length bs == 0) None (cond (all_digits bs) (Some (min 18446744073709551616 (value_after 0 bs))) None)
+magnitude_in bs = cond (length bs == 0) None (cond (list_all is_digit bs) (Some (min 18446744073709551616 (value_after 0 bs))) None)
 
 -- a minus sign may stand in front
 abbrev pub number_in : List ℕ → Option ℤ

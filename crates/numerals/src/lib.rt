@@ -3,15 +3,9 @@
 #![tactic(auto)]
 
 ghost use Rattle.std.specs.Prelude.{◌≡◌, ◌≤◌, IfSome};
-ghost use Rattle.numerals.specs.Decimal.{is_digit, magnitude_in, number_in};
+ghost use Rattle.numerals.specs.Decimal.{magnitude_in, number_in};
 
 const PAST_64_BITS: u128 = 18446744073709551616;
-
-fn is_digit(b: u8) -> bool
-    ensures { result ≡ is_digit b }
-{
-    b'0' <= b && b <= b'9'
-}
 
 // A row of decimal digits; None for anything else.
 fn magnitude(digits: &[u8]) -> Option<u128>
@@ -23,7 +17,7 @@ fn magnitude(digits: &[u8]) -> Option<u128>
     }
     let mut value = 0u128;
     for digit in digits {
-        if !is_digit(*digit) {
+        if !digit.is_ascii_digit() {
             return None;
         }
         value = (value * 10 + (*digit - b'0') as u128).min(PAST_64_BITS);
@@ -35,15 +29,8 @@ fn magnitude(digits: &[u8]) -> Option<u128>
 pub fn number(word: &str) -> Option<i128>
     ensures { result ≡ number_in word.now }
 {
-    let bytes = word.as_bytes();
-    if bytes.is_empty() || bytes[0] != b'-' {
-        return match magnitude(bytes) {
-            Some(value) => Some(value as i128),
-            None => None,
-        };
-    }
-    match magnitude(&bytes[1..]) {
-        Some(value) => Some(-(value as i128)),
-        None => None,
+    match word.as_bytes().strip_prefix(b"-") {
+        Some(digits) => Some(-(magnitude(digits)? as i128)),
+        None => Some(magnitude(word.as_bytes())? as i128),
     }
 }

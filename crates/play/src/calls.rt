@@ -12,6 +12,8 @@ use machines::Machine;
 use protocol::Call;
 use rack::Rack;
 
+// Kept: rack, entries, machines and backplane as four. Each call is lent other ones of them, and a struct of all would have to
+// be taken apart for each.
 pub(crate) fn perform<B: Backplane, M: Machine>(
     rack: &mut Rack,
     entries: &mut [Entry],
@@ -27,6 +29,8 @@ pub(crate) fn perform<B: Backplane, M: Machine>(
     ensures count { B.Backplane.count backplane.new ≡ B.Backplane.count backplane.old }
     ensures room { B.Backplane.room backplane.new ≡ B.Backplane.room backplane.old }
 {
+    // Kept: a call is a value that comes from a list, so which function it names is found by a match; a list of closures would
+    // say the same once more, and could not be printed or compared.
     match call {
         Call::Timeout(card) => tell_epoch(rack.timeout(card)),
         Call::Elect(card) => tell_choice(rack.elect(card)),

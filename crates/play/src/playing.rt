@@ -35,8 +35,9 @@ pub fn play<B: Backplane, M: Machine>(
     {
         return Err(RackFault::WrongSize);
     }
-    for k in 0..calls.len() {
-        replies[k] = perform(rack, entries, machines, backplane, calls[k]);
+    // Kept: a place by its index. Of a slice that is gone over by an adapter of `iter_mut` it is not known what was written.
+    for (k, call) in calls.iter().enumerate() {
+        replies[k] = perform(rack, entries, machines, backplane, *call);
     }
     Ok(())
 }

@@ -9,6 +9,9 @@ use protocol::{Answer, Choice, Intake};
 use rack::RackFault;
 use refusals::Refusal;
 
+// Kept: a function for each answer. One over a closure is no plainer: its contract could only speak of what the closure
+// answers, and each of the ten calls would have to show that of its own. Nor is a `From` for each of the six results: the
+// conversions would be these six functions, each with a type's name for its own.
 pub(crate) fn tell_epoch(res: Result<Epoch, RackFault>) -> Reply
     ensures { result ≡ told ForEpoch res }
 {

@@ -54,14 +54,20 @@ rows_of row zero = []
 rows_of row (suc n) = row 1 ∷ rows_of (λ (j : ℕ). row (suc j)) n
 
 -- as one card knows them: its own row in its own place, copies elsewhere
+abbrev pub known_row : {A : Type 0} → (PeerRow → A) → ℕ → A → PeerTable → ℕ → A
+known_row copied card own table j = cond (j == card) own (copied (row_of table j))
+
+abbrev pub known_rows : {A : Type 0} → (PeerRow → A) → ℕ → ℕ → A → PeerTable → List A
+known_rows copied n card own table = rows_of (known_row copied card own table) n
+
 abbrev pub accept_of : ℕ → Header → PeerTable → ℕ → Header
-accept_of card own table j = cond (j == card) own (row_of table j).accept
+accept_of card own table j = known_row (λ row. row.accept) card own table j
 
 abbrev pub vote_of : ℕ → Vote → PeerTable → ℕ → Vote
-vote_of card own table j = cond (j == card) own (row_of table j).vote
+vote_of card own table j = known_row (λ row. row.vote) card own table j
 
 abbrev pub accept_rows : ℕ → ℕ → Header → PeerTable → List Header
-accept_rows n card own table = rows_of (accept_of card own table) n
+accept_rows n card own table = known_rows (λ row. row.accept) n card own table
 
 abbrev pub vote_rows : ℕ → ℕ → Vote → PeerTable → List Vote
-vote_rows n card own table = rows_of (vote_of card own table) n
+vote_rows n card own table = known_rows (λ row. row.vote) n card own table

@@ -5,6 +5,7 @@ use Rattle.refusals.specs.declared.Refusal.TheVariants.{NoSuchCard, Stopped, Not
 use Rattle.marks.specs.Kinds.{Epoch, Header}
 use Rattle.marks.specs.Order.{epoch_below, epoch_same, header_below, header_up_to}
 use Rattle.frames.specs.Fields.{EntryFields, FrameFields, header_of, epoch_of, words_header}
+use Rattle.frames.specs.Carried.{entry_of}
 use Rattle.protocol.specs.Rack.{Sizes, State, Reply, with_card, with_log, with_lane, ask, no_peer}
 use Rattle.protocol.specs.Booking.{accepted_up_to}
 use Rattle.protocol.specs.declared.answer.Answer.{Answer}
@@ -61,9 +62,6 @@ follows c f = epoch_same (epoch_of f) c.current && (epoch_same (epoch_of f) c.ne
 -- a message that follows, or a diff of an epoch other than the current one
 abbrev pub in_turn : Card → FrameFields → Bool
 in_turn c f = cond (is_message f) (follows c f) (not (epoch_same (epoch_of f) c.current))
-
-abbrev pub entry_of : FrameFields → EntryFields
-entry_of f = record { header = header_of f; queue = f.w1; payload = (f.w2, f.w3, f.w4) }
 
 -- entries above the base go, those of the diff follow
 abbrev pub kept_up_to : Header → List EntryFields → List EntryFields

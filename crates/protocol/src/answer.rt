@@ -36,6 +36,13 @@ impl Choice {
     }
 }
 
+impl fmt::Display for Choice {
+    fn fmt<W: fmt::Write>(&self, f: &mut fmt::Formatter<W>) -> fmt::Result {
+        let number = self.number();
+        write!(f, "{number}")
+    }
+}
+
 // What take did with a message or diff.
 #[derive(Clone, Copy, PartialEq, Eq, Debug)]
 pub enum Intake {
@@ -53,7 +60,14 @@ impl Intake {
     }
 }
 
-#[derive(Clone, Copy)]
+impl fmt::Display for Intake {
+    fn fmt<W: fmt::Write>(&self, f: &mut fmt::Formatter<W>) -> fmt::Result {
+        let number = self.number();
+        write!(f, "{number}")
+    }
+}
+
+#[derive(Clone, Copy, PartialEq, Eq, Debug)]
 pub enum Answer {
     // timeout, win
     ForEpoch(Epoch),
@@ -73,16 +87,10 @@ impl fmt::Display for Answer {
     fn fmt<W: fmt::Write>(&self, f: &mut fmt::Formatter<W>) -> fmt::Result {
         match *self {
             Answer::ForEpoch((round, leader)) => write!(f, "ok {round} {leader}"),
-            Answer::Chose(choice) => {
-                let number = choice.number();
-                write!(f, "ok {number}")
-            }
+            Answer::Chose(choice) => write!(f, "ok {choice}"),
             Answer::Placed((round, leader, count)) => write!(f, "ok {round} {leader} {count}"),
             Answer::Count(count) => write!(f, "ok {count}"),
-            Answer::Took(intake) => {
-                let number = intake.number();
-                write!(f, "ok {number}")
-            }
+            Answer::Took(intake) => write!(f, "ok {intake}"),
             Answer::Done => write!(f, "ok"),
         }
     }

@@ -1,7 +1,7 @@
 // The ten calls, with any numbers.
 use frames::Words;
 
-#[derive(Clone, Copy)]
+#[derive(Clone, Copy, PartialEq, Eq, Debug)]
 pub enum Call {
     // card
     Timeout(u8),

@@ -17,7 +17,7 @@ pub enum Role {
     Follower,
 }
 
-#[derive(Clone, Copy)]
+#[derive(Clone, Copy, PartialEq, Eq, Debug)]
 pub struct Card {
     pub role: Role,
     pub stopped: bool,

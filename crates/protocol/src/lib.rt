@@ -11,7 +11,7 @@ pub mod peers;
 pub use answer::{Answer, Choice, Intake};
 pub use call::Call;
 pub use card::{Card, Role, is_majority};
-pub use peers::{PeerRow, PeerTable};
+pub use peers::{Copied, PeerRow, PeerTable};
 
 // The definitions at small values.
 pub fn samples<S>()

@@ -1,11 +1,13 @@
 // What a card knows of its peers.
 ghost use Rattle.std.specs.Prelude.{◌≡◌};
-ghost use Rattle.protocol.specs.Rows.{blank_row, blank_table, row_of, with_row, accept_of, vote_of, accept_rows, vote_rows, store_accept, store_vote, store_commit, mark_shipped, forget_shipped};
+ghost use Rattle.protocol.specs.declared.peers.PeerRow.{PeerRow as ARow};
+ghost use Rattle.protocol.specs.Rows.{blank_row, blank_table, row_of, with_row, known_row, known_rows, store_accept, store_vote, store_commit, mark_shipped, forget_shipped};
 
 use marks::{Header, Vote};
+use std::array;
 
 // What was shipped to a peer in this epoch, and the copies of its rows.
-#[derive(Clone, Copy)]
+#[derive(Clone, Copy, PartialEq, Eq, Debug)]
 pub struct PeerRow {
     // None: nothing yet; Some(k): the diff, and messages up to count k
     pub shipped: Option<u32>,
@@ -28,8 +30,32 @@ impl PeerRow {
     }
 }
 
+// A mark of which a card keeps a copy for each peer.
+pub trait Copied: Copy {
+    ghost copied: { ARow → Self };
+
+    fn of(row: PeerRow) -> Self
+        ensures { result ≡ copied row };
+}
+
+impl Copied for Header {
+    ghost copied = { λ row. row.accept };
+
+    fn of(row: PeerRow) -> Header {
+        row.accept
+    }
+}
+
+impl Copied for Vote {
+    ghost copied = { λ row. row.vote };
+
+    fn of(row: PeerRow) -> Vote {
+        row.vote
+    }
+}
+
 // Peer j stands at index j - 1; a card's own place is not used.
-#[derive(Clone, Copy)]
+#[derive(Clone, Copy, PartialEq, Eq, Debug)]
 pub struct PeerTable {
     pub rows: [PeerRow; 7],
 }
@@ -48,13 +74,11 @@ impl PeerTable {
         ensures { result ≡ row_of self.now peer }
     {
         let index = peer.saturating_sub(1) as usize;
-        if index < self.rows.len() {
-            self.rows[index]
-        } else {
-            PeerRow::blank()
-        }
+        self.rows.get(index).copied().unwrap_or(PeerRow::blank())
     }
 
+    // Kept: a function for each mark that a row holds. Two of the marks are both headers, so the type does not say which is
+    // meant, and one function over a closure would have each caller say which field it is.
     pub fn store_accept(&mut self, peer: u8, accept: Header)
         ensures { self.new ≡ store_accept self.old peer accept }
     {
@@ -96,57 +120,26 @@ impl PeerTable {
     }
 
     // A card's own row in its own place, a copy elsewhere.
-    fn accept_of(&self, card: u8, own: Header, place: u8) -> Header
-        ensures { result ≡ accept_of card own self.now place }
+    fn known_row<T: Copied>(&self, card: u8, own: T, place: u8) -> T
+        ensures { result ≡ known_row T.Copied.copied card own self.now place }
     {
         if place == card {
             own
         } else {
-            self.row(place).accept
+            T::of(self.row(place))
         }
     }
 
-    fn vote_of(&self, card: u8, own: Vote, place: u8) -> Vote
-        ensures { result ≡ vote_of card own self.now place }
+    // The rows of one kind of cards 1 to 7, as a card knows them.
+    pub fn known_rows<T: Copied>(&self, card: u8, own: T) -> [T; 7]
+        ensures { result ≡ known_rows T.Copied.copied 7 card own self.now }
     {
-        if place == card {
-            own
-        } else {
-            self.row(place).vote
-        }
-    }
-
-    // The accept rows of cards 1 to 7, as a card knows them.
-    pub fn accept_rows(&self, card: u8, own: Header) -> [Header; 7]
-        ensures { result ≡ accept_rows 7 card own self.now }
-    {
-        [
-            self.accept_of(card, own, 1),
-            self.accept_of(card, own, 2),
-            self.accept_of(card, own, 3),
-            self.accept_of(card, own, 4),
-            self.accept_of(card, own, 5),
-            self.accept_of(card, own, 6),
-            self.accept_of(card, own, 7),
-        ]
-    }
-
-    // The vote rows of cards 1 to 7, as a card knows them.
-    pub fn vote_rows(&self, card: u8, own: Vote) -> [Vote; 7]
-        ensures { result ≡ vote_rows 7 card own self.now }
-    {
-        [
-            self.vote_of(card, own, 1),
-            self.vote_of(card, own, 2),
-            self.vote_of(card, own, 3),
-            self.vote_of(card, own, 4),
-            self.vote_of(card, own, 5),
-            self.vote_of(card, own, 6),
-            self.vote_of(card, own, 7),
-        ]
+        array::from_fn(|index| self.known_row(card, own, index as u8 + 1))
     }
 
     // Nothing changes where there is no such peer.
+    // Kept: a place that is asked for and then written. Tried by `get_mut`; the library says what a slice's `get_mut` finds,
+    // and nothing of the slice after a write through it.
     fn put(&mut self, peer: u8, row: PeerRow)
         ensures { self.new ≡ with_row self.old peer row }
     {
@@ -160,8 +153,8 @@ impl PeerTable {
     pub fn forget_shipped(&mut self)
         ensures { self.new ≡ forget_shipped self.old }
     {
-        for index in 0..7 {
-            self.mark_shipped(index + 1, None);
+        for peer in 1..=7 {
+            self.mark_shipped(peer, None);
         }
     }
 }

@@ -1,36 +1,40 @@
 -- commit, from its part on one card, its log and its machine.
-use Rattle.std.proofs.Common.{◌≡◌, ℕ, ◌-◌, ◌≤◌, Bool, true, cond, not, List, [], ◌∷◌, length, get_or, take, Ok, Err, sym, ap, ◌∙◌, subst, arith}
+use Rattle.std.proofs.Common.{◌≡◌, ℕ, ◌-◌, ◌≤◌, Bool, true, cond, not, List, [], ◌∷◌, map, length, get_or, Ok, Err, sym, refl, ap, ◌∙◌, subst, arith}
 use Rattle.std.proofs.lemmas.Bool.{cond-true}
 use Rattle.std.proofs.lemmas.List.{get_or-map}
 use Rattle.refusals.specs.declared.Refusal.{Refusal}
 use Rattle.refusals.specs.declared.Refusal.TheVariants.{NoSuchCard, Stopped, WrongRole, NothingDue}
 use Rattle.backplane.specs.Lanes.{Lanes, is_card}
 use Rattle.frames.specs.Fields.{Words, EntryFields}
+use Rattle.frames.specs.Views.{entry_fields}
 use Rattle.frames.specs.declared.entry.Entry.{Entry}
-use Rattle.logs.specs.Log.{log_of}
-use Rattle.protocol.specs.Rack.{State, Reply, ask, at, with_card, with_machine, is_electing, opened_card}
+use Rattle.protocol.specs.Rack.{State, Reply, ask, at, with_card, with_machine, is_electing}
 use Rattle.protocol.specs.Committing.{supported, due_entries, committed_to, applied, committed, commit}
 use Rattle.protocol.specs.declared.answer.Answer.{Answer}
 use Rattle.protocol.specs.declared.answer.Answer.TheVariants.{Count}
 use Rattle.protocol.specs.declared.card.Card.{Card}
 use Rattle.protocol.proofs.Asked.{ask_done, ask_refused, ask_lifts}
 use Rattle.cards.specs.Parts.{of_cards}
-use Rattle.cards.specs.Sizes.{card_count}
+use Rattle.cards.specs.declared.member.Member.{Member}
 use Rattle.card_log.specs.Parts.{is_missing, commit_log}
 use Rattle.rack.specs.Sound.{sound_card}
-use Rattle.rack.specs.View.{part_of, machines_of, view, sizes}
+use Rattle.rack.specs.View.{machines_of, view, sizes}
+use Rattle.rack.specs.declared.seat.Seat.{Seat}
 use Rattle.rack.specs.Written.{Written}
 use Rattle.rack.specs.declared.state.Rack.{Rack}
-use Rattle.rack.proofs.Views.{at_same, view_written}
+use Rattle.rack.proofs.Views.{Found, at_same, own_card, view_written}
 use Rattle.rack.proofs.Sounds.{AreEntries, entries_all, entries_due, sound_committed}
 use Rattle.rack.proofs.Parts.{card_low, card_high}
-use Rattle.rack.proofs.Calls.{own_card, own_log}
 
 -- the machine in a card's place
 pub machine_at : {M S : Type 0} (n i : ℕ) (state : M → S) (initial : S) (ms : List M) (d : M) → is_card n i ≡ true → n ≤ length ms → state (get_or ms (i - 1) d) ≡ machines_of n state initial ms i
 machine_at n i state initial ms d is long = sym (cond-true _ _ _ is ∙ get_or-map state ms (i - 1) d initial (omega (arith, card_low n i is, card_high n i is, long)))
 
-module _ {S : Type 0} (apply : ℕ → Words → S → S) (r : Rack) (i capacity : ℕ) (entries : List Entry) (ms : ℕ → S) (lanes : Lanes) (is : is_card (card_count r.size) i ≡ true) (copy : Card) (copied : copy ≡ get_or r.cards (i - 1) opened_card) (part : List Entry) (slice : part ≡ part_of r.places i entries) (used : ℕ) (counted : used ≡ get_or r.used (i - 1) 0) (m : S) (stood : m ≡ ms i) where
+-- the part that the card is asked is of this size and this number
+pub by_member : {S : Type 0} (apply : ℕ → Words → S → S) {m m' : Member} (log : List EntryFields) (x : Card × S) → m ≡ m' → commit_log apply m.size m.number log x ≡ commit_log apply m'.size m'.number log x
+by_member apply log x e = ap (λ (m : Member). commit_log apply m.size m.number log x) e
+
+module _ {S : Type 0} (apply : ℕ → Words → S → S) (r : Rack) (i capacity : ℕ) (entries : List Entry) (ms : ℕ → S) (lanes : Lanes) (seat : Seat) (found : Found r i seat) (seen : List Entry) (log_is : map entry_fields seen ≡ (view r entries ms lanes).logs i) (m : S) (stood : m ≡ ms i) where
   abbrev s : State S
   s = view r entries ms lanes
 
@@ -56,27 +60,24 @@ module _ {S : Type 0} (apply : ℕ → Words → S → S) (r : Rack) (i capacity
   whole_before = λ k. record { cards = at_same i s.cards k; logs = s.logs; tally = s.tally; machines = at_same i s.machines k; lanes = s.lanes }
 
   at_rack : ask checks (Count (length due)) (committed apply i s) s ≡ commit apply (sizes r capacity) i s
-  at_rack = sym (ap (λ b. cond (not b) (Err NoSuchCard, s) (ask checks (Count (length due)) (committed apply i s) s)) is)
+  at_rack = sym (ap (λ b. cond (not b) (Err NoSuchCard, s) (ask checks (Count (length due)) (committed apply i s) s)) found.is)
 
-  log_is : log_of part used ≡ s.logs i
-  log_is = (λ t. log_of (slice t) (counted t)) ∙ sym (own_log r i entries ms lanes is)
+  from_part : commit_log apply r.size i (map entry_fields seen) (seat.card, m) ≡ commit_log apply r.size i (s.logs i) before
+  from_part = λ k. commit_log apply r.size i (log_is k) ((found.card ∙ sym (own_card r i entries ms lanes found.is)) k, stood k)
 
-  from_part : commit_log apply r.size i (log_of part used) (copy, m) ≡ commit_log apply r.size i (s.logs i) before
-  from_part = λ k. commit_log apply r.size i (log_is k) ((copied ∙ sym (own_card r i entries ms lanes is)) k, stood k)
-
-  pub commit_answered : (reply : Reply) (x : Card × S) → (reply, x) ≡ commit_log apply r.size i (log_of part used) (copy, m) → (r' : Rack) (ms' : ℕ → S) → Written r r' i x.0 → ms' ≡ at i x.1 ms → (reply, view r' entries ms' lanes) ≡ commit apply (sizes r capacity) i s
+  pub commit_answered : (reply : Reply) (x : Card × S) → (reply, x) ≡ commit_log apply r.size i (map entry_fields seen) (seat.card, m) → (r' : Rack) (ms' : ℕ → S) → Written r r' i (record { card = x.0; used = seat.used }) r.tally → ms' ≡ at i x.1 ms → (reply, view r' entries ms' lanes) ≡ commit apply (sizes r capacity) i s
   commit_answered reply x e r' ms' w moved =
-      (λ k. (reply, ((λ t. view r' entries (moved t) lanes) ∙ view_written r r' i x.0 entries (at i x.1 ms) lanes is w) k))
+      (λ k. (reply, ((λ t. view r' entries (moved t) lanes) ∙ view_written r r' i (record { card = x.0; used = seat.used }) r.tally entries (at i x.1 ms) lanes found.is w found.used refl) k))
       ∙ ask_lifts whole checks (Count (length due)) after before x reply (e ∙ from_part)
       ∙ (λ k. ask checks (Count (length due)) (committed apply i s) (whole_before k))
       ∙ at_rack
 
-  pub commit_refused : (why : Refusal) (x : Card × S) → (Err why, x) ≡ commit_log apply r.size i (log_of part used) (copy, m) → (Err why, s) ≡ commit apply (sizes r capacity) i s
+  pub commit_refused : (why : Refusal) (x : Card × S) → (Err why, x) ≡ commit_log apply r.size i (map entry_fields seen) (seat.card, m) → (Err why, s) ≡ commit apply (sizes r capacity) i s
   commit_refused why x e = (ask_refused checks [] (Count (length due)) (Count (length due)) why after before x (committed apply i s) s (e ∙ from_part)).1 ∙ at_rack
 
-  pub commit_sound : (said : Answer) (x : Card × S) → (Ok said, x) ≡ commit_log apply r.size i (log_of part used) (copy, m) → sound_card x.0 ≡ true
+  pub commit_sound : (said : Answer) (x : Card × S) → (Ok said, x) ≡ commit_log apply r.size i (map entry_fields seen) (seat.card, m) → sound_card x.0 ≡ true
   commit_sound said x e =
       let d = ask_done checks (Count (length due)) said after before x (e ∙ from_part) in
-      let entered : AreEntries (s.logs i) = subst AreEntries log_is (entries_all (take used part)) in
+      let entered : AreEntries (s.logs i) = subst AreEntries log_is (entries_all seen) in
       ap (λ (p : Card × S). sound_card p.0) d.2
-      ∙ sound_committed due own (ap sound_card (own_card r i entries ms lanes is) ∙ r.sound (i - 1)) (entries_due own (s.logs i) entered)
+      ∙ sound_committed due own (ap sound_card (own_card r i entries ms lanes found.is) ∙ r.sound (i - 1)) (entries_due own (s.logs i) entered)

@@ -20,12 +20,12 @@ use Rattle.cards.specs.Sizes.{card_count}
 use Rattle.exchange.specs.Parts.{push_part, look_part}
 use Rattle.rack.specs.Sound.{sound_card}
 use Rattle.rack.specs.View.{view, sizes}
+use Rattle.rack.specs.declared.seat.Seat.{Seat}
 use Rattle.rack.specs.declared.state.Rack.{Rack}
 use Rattle.rack.proofs.Sounds.{sound_stored}
 use Rattle.rack.proofs.Frames.{framed_own}
-use Rattle.rack.proofs.Views.{at_same}
+use Rattle.rack.proofs.Views.{at_same, own_card}
 use Rattle.rack.proofs.Peers.{Pair, lane_is, apart_back, row_lane, front_frame}
-use Rattle.rack.proofs.Calls.{own_card}
 
 -- the state with other lanes, and with another card too
 abbrev pub with_lanes : {S : Type 0} → LanesOf FrameFields → State S → State S
@@ -37,7 +37,7 @@ with_both i p s = with_card i p.0 (with_lanes p.1 s)
 pub both_same : {S : Type 0} (i : ℕ) (s : State S) → with_both i (s.cards i, s.lanes) s ≡ s
 both_same i s = λ k. record { cards = at_same i s.cards k; logs = s.logs; tally = s.tally; machines = s.machines; lanes = s.lanes }
 
-module _ {S : Type 0} (r : Rack) (i j kind room : ℕ) (entries : List Entry) (ms : ℕ → S) (lanes : Lanes) (copy : Card) (pair : Pair r i j copy) where
+module _ {S : Type 0} (r : Rack) (i j kind room : ℕ) (entries : List Entry) (ms : ℕ → S) (lanes : Lanes) (seat : Seat) (pair : Pair r i j seat) where
   abbrev s : State S
   s = view r entries ms lanes
 
@@ -50,8 +50,8 @@ module _ {S : Type 0} (r : Rack) (i j kind room : ℕ) (entries : List Entry) (m
   sound : sound_card own ≡ true
   sound = ap sound_card (own_card r i entries ms lanes pair.card) ∙ r.sound (i - 1)
 
-  copied : copy ≡ own
-  copied = pair.copied ∙ sym (own_card r i entries ms lanes pair.card)
+  copied : seat.card ≡ own
+  copied = pair.found.card ∙ sym (own_card r i entries ms lanes pair.card)
 
   abbrev undue : Bool
   undue = eqb kind 6 && not (epoch_same (epoch_of own.committed) own.current)
@@ -95,7 +95,7 @@ module _ {S : Type 0} (r : Rack) (i j kind room : ℕ) (entries : List Entry) (m
         ∙ sym (ap (λ b. cond b (Err NoSuchCard, s) (cond (not (is_row_kind kind)) (Err OutOfRange, s) (ask (first ++ mine s.lanes) Done (pushed i j kind s) s))) pair.here ∙ ap (λ b. cond (not b) (Err OutOfRange, s) (ask (first ++ mine s.lanes) Done (pushed i j kind s) s)) is)
 
     -- refused or not, push leaves the rack and moves the lanes
-    pub push_done : (reply : Reply) (lanes' : Lanes) → (reply, lane_fields lanes') ≡ push_part count room i j kind copy (lane_fields lanes) → (reply, view r entries ms lanes') ≡ push (sizes r room) i j kind s
+    pub push_done : (reply : Reply) (lanes' : Lanes) → (reply, lane_fields lanes') ≡ push_part count room i j kind seat.card (lane_fields lanes) → (reply, view r entries ms lanes') ≡ push (sizes r room) i j kind s
     push_done reply lanes' e =
         ask_lifts (λ L. with_lanes L s) push_checks Done (at_lane i j kind (s.lanes i j kind ++ own_row own kind ∷ []) s.lanes) s.lanes (lane_fields lanes') reply (e ∙ ap (λ c. push_part count room i j kind c (lane_fields lanes)) copied)
         ∙ push_rack
@@ -117,17 +117,17 @@ module _ {S : Type 0} (r : Rack) (i j kind room : ℕ) (entries : List Entry) (m
         ask_omit ((own.stopped, Stopped) ∷ []) ((eqb (length (s.lanes j i kind)) 0, NothingDue) ∷ (not (eqb (front (s.lanes j i kind)).kind kind), Malformed) ∷ []) (not (is_lane count j i kind)) NoSuchCard Done (looked i j kind s) s (λ _. ap not back)
         ∙ sym (ap (λ b. cond b (Err NoSuchCard, s) (cond (not (is_row_kind kind)) (Err OutOfRange, s) (ask theirs Done (looked i j kind s) s))) pair.here ∙ ap (λ b. cond (not b) (Err OutOfRange, s) (ask theirs Done (looked i j kind s) s)) is)
 
-    look_part_lem : look_part count i j kind (copy, lane_fields lanes) ≡ look_part count i j kind before
+    look_part_lem : look_part count i j kind (seat.card, lane_fields lanes) ≡ look_part count i j kind before
     look_part_lem = ap (λ c. look_part count i j kind (c, lane_fields lanes)) copied
 
     -- refused or not, look leaves the rack with the card that its part leaves
-    pub look_done : (reply : Reply) (c : Card) (lanes' : Lanes) → (reply, (c, lane_fields lanes')) ≡ look_part count i j kind (copy, lane_fields lanes) → (reply, with_card i c (view r entries ms lanes')) ≡ look (sizes r room) i j kind s
+    pub look_done : (reply : Reply) (c : Card) (lanes' : Lanes) → (reply, (c, lane_fields lanes')) ≡ look_part count i j kind (seat.card, lane_fields lanes) → (reply, with_card i c (view r entries ms lanes')) ≡ look (sizes r room) i j kind s
     look_done reply c lanes' e =
         ask_lifts (λ p. with_both i p s) look_checks Done after before (c, lane_fields lanes') reply (e ∙ look_part_lem)
         ∙ (λ k. ask look_checks Done (looked i j kind s) (both_same i s k))
         ∙ look_rack
 
-    pub look_sound : (reply : Reply) (c : Card) (lanes' : Lanes) → (reply, (c, lane_fields lanes')) ≡ look_part count i j kind (copy, lane_fields lanes) → sound_card c ≡ true
+    pub look_sound : (reply : Reply) (c : Card) (lanes' : Lanes) → (reply, (c, lane_fields lanes')) ≡ look_part count i j kind (seat.card, lane_fields lanes) → sound_card c ≡ true
     look_sound reply c lanes' e =
         ap (λ (t : Reply × Part). sound_card t.1.0) (e ∙ look_part_lem)
         ∙ ask_keeps (λ (p : Part). sound_card p.0 ≡ true) look_checks Done after before sound looks

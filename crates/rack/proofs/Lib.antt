@@ -9,6 +9,6 @@ pub mod Commits
 pub mod Opens
 pub mod Peers
 pub mod Exchanges
+pub mod Readings
 pub mod Ships
 pub mod Takes
-pub mod Readings

@@ -80,6 +80,10 @@ replaced_none n p i entries = record { own = refl; others = λ _ _ _. refl }
 pub put_same : (a k : ℕ) (xs : List Entry) → put_mid a k xs (take k (drop a xs)) ≡ xs
 put_same a k xs = ap (λ ys. take a xs ++ ys) (take-append-drop k (drop a xs)) ∙ take-append-drop a xs
 
+-- entries taken apart around a part, and joined again with what the part became
+pub joined : (low p : ℕ) (xs front rest back left now : List Entry) → front ≡ take low xs → rest ≡ drop low xs → back ≡ drop p rest → left ≡ now → front ++ (left ++ back) ≡ put_mid low p xs now
+joined low p xs front rest back left now f r b e = λ k. f k ++ (e k ++ (b ∙ ap (drop p) r) k)
+
 -- the logs after one card's part and its used places changed
 pub logs_set : (n p i u : ℕ) (used : List ℕ) (entries entries' part : List Entry) → is_card n i ≡ true → n ≤ length used → Replaced n p i entries entries' part → logs_of n p (set used (i - 1) u) entries' ≡ at i (log_of part u) (logs_of n p used entries)
 logs_set n p i u used entries entries' part is long w = fun_ext λ j. one j (eqb j i) refl (is_card n j) refl

@@ -1,11 +1,11 @@
 -- A call that its card refuses is refused by the rack, and leaves it.
-use Rattle.std.proofs.Common.{◌≡◌, ℕ, ◌-◌, Bool, true, false, cond, not, List, [], ◌∷◌, get_or, IsErrAnd, Ok, Err, Result, sym, ap, ◌∙◌, arith}
+use Rattle.std.proofs.Common.{◌≡◌, ℕ, Bool, true, false, cond, not, List, [], ◌∷◌, IsErrAnd, Ok, Err, Result, sym, ap, ◌∙◌, arith}
 use Rattle.std.proofs.lemmas.Result.{err_from_is_err_and}
 use Rattle.refusals.specs.declared.Refusal.{Refusal}
 use Rattle.refusals.specs.declared.Refusal.TheVariants.{NoSuchCard}
 use Rattle.backplane.specs.Lanes.{Lanes, is_card}
 use Rattle.frames.specs.declared.entry.Entry.{Entry}
-use Rattle.protocol.specs.Rack.{State, Reply, with_card, ask, opened_card}
+use Rattle.protocol.specs.Rack.{State, Reply, with_card, ask}
 use Rattle.protocol.specs.declared.answer.Answer.{Answer}
 use Rattle.protocol.specs.declared.card.Card.{Card}
 use Rattle.cards.specs.Faults.{card_refusal}
@@ -15,7 +15,9 @@ use Rattle.rack.specs.Faults.{rack_refusal, told}
 use Rattle.rack.specs.declared.fault.RackFault.{RackFault}
 use Rattle.rack.specs.declared.fault.RackFault.TheVariants as fault
 use Rattle.rack.specs.View.{view}
+use Rattle.rack.specs.declared.seat.Seat.{Seat}
 use Rattle.rack.specs.declared.state.Rack.{Rack}
+use Rattle.rack.proofs.Views.{Found, own_card}
 
 err_ok : {f : Refusal} {x : Answer} → ◌≡◌ {A = Reply} (Err f) (Ok x) → ⊥
 err_ok p = let z : ◌≡◌ {A = ℕ} 0 1 = cc in omega arith
@@ -34,15 +36,18 @@ pub told_card : {X : Type 0} (answer : X → Answer) (r : Result X RackFault) (f
 told_card answer r f e = let p = err_from_is_err_and r e in ap (told answer) p.1 ∙ ap (λ y. Err (rack_refusal y)) p.2
 
 module _ (checks : Card → List (Bool × Refusal)) (answer : Card → Answer) (after : Card → Card) where
-  pub refused : {S : Type 0} (r : Rack) (i : ℕ) (own c : Card) (entries : List Entry) (machines : ℕ → S) (lanes : Lanes) (reply : Reply) (refusal : Refusal) → reply ≡ Err refusal → (is_card (card_count r.size) i ≡ true) × (own ≡ get_or r.cards (i - 1) opened_card) → (Err refusal, c) ≡ ask (checks own) (answer own) (after own) own → (reply, view r entries machines lanes) ≡ ask ((not (is_card (card_count r.size) i), NoSuchCard) ∷ checks ((view r entries machines lanes).cards i)) (answer ((view r entries machines lanes).cards i)) (with_card i (after ((view r entries machines lanes).cards i)) (view r entries machines lanes)) (view r entries machines lanes)
-  refused {S} r i own c entries machines lanes reply refusal told_it is e =
+  pub refused : {S : Type 0} (r : Rack) (i : ℕ) (seat : Seat) (c : Card) (entries : List Entry) (machines : ℕ → S) (lanes : Lanes) (reply : Reply) (refusal : Refusal) → reply ≡ Err refusal → Found r i seat → (Err refusal, c) ≡ ask (checks seat.card) (answer seat.card) (after seat.card) seat.card → (reply, view r entries machines lanes) ≡ ask ((not (is_card (card_count r.size) i), NoSuchCard) ∷ checks ((view r entries machines lanes).cards i)) (answer ((view r entries machines lanes).cards i)) (with_card i (after ((view r entries machines lanes).cards i)) (view r entries machines lanes)) (view r entries machines lanes)
+  refused {S} r i seat c entries machines lanes reply refusal told_it f e =
       (λ k. (told_it k, s))
       ∙ refused_same (checks own) (answer own) refusal (after own) own c (with_card i (after own) s) s e
       ∙ ap (λ d. ask (checks d) (answer d) (with_card i (after d) s) s) own_is
-      ∙ sym (ap (λ b. cond (not b) (Err NoSuchCard, s) (ask (checks (s.cards i)) (answer (s.cards i)) (with_card i (after (s.cards i)) s) s)) is.0)
+      ∙ sym (ap (λ b. cond (not b) (Err NoSuchCard, s) (ask (checks (s.cards i)) (answer (s.cards i)) (with_card i (after (s.cards i)) s) s)) f.is)
     where
       s : State S
       s = view r entries machines lanes
 
+      own : Card
+      own = seat.card
+
       own_is : own ≡ s.cards i
-      own_is = is.1 ∙ sym (ap (λ b. cond b (get_or r.cards (i - 1) opened_card) opened_card) is.0)
+      own_is = f.card ∙ sym (own_card r i entries machines lanes f.is)

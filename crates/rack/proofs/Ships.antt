@@ -1,5 +1,5 @@
 -- ship, from its part on one card, its log and the lanes.
-use Rattle.std.proofs.Common.{◌≡◌, ℕ, ◌+◌, ◌-◌, ◌≤◌, Bool, true, false, cond, not, eqb, ltb, List, [], ◌∷◌, ◌++◌, length, get_or, Some, None, Ok, Err, Option, sym, refl, ap, ◌∙◌, arith}
+use Rattle.std.proofs.Common.{◌≡◌, ℕ, ◌+◌, ◌-◌, ◌≤◌, Bool, true, false, cond, not, eqb, ltb, List, [], ◌∷◌, ◌++◌, map, length, get_or, Some, None, Ok, Err, Option, sym, refl, ap, ◌∙◌, arith}
 use Rattle.std.proofs.lemmas.Bool.{not-false}
 use Rattle.std.proofs.lemmas.List.Filters.{length-filter_both}
 use Rattle.refusals.specs.declared.Refusal.{Refusal}
@@ -8,6 +8,7 @@ use Rattle.marks.specs.Kinds.{Header, is_header}
 use Rattle.backplane.specs.Lanes.{Lanes, LanesOf, is_lane}
 use Rattle.frames.specs.declared.entry.Entry.{Entry}
 use Rattle.frames.specs.Fields.{EntryFields, FrameFields}
+use Rattle.frames.specs.Views.{entry_fields}
 use Rattle.protocol.specs.Rows.{row_of, mark_shipped}
 use Rattle.protocol.specs.Rack.{State, Reply, ask, is_leader}
 use Rattle.protocol.specs.Booking.{inside, diff_entries, shipment_to, shipped_after, shipped, ship, with_peers}
@@ -15,20 +16,21 @@ use Rattle.protocol.specs.declared.answer.Answer.{Answer}
 use Rattle.protocol.specs.declared.answer.Answer.TheVariants.{Count}
 use Rattle.protocol.specs.declared.card.Card.{Card}
 use Rattle.protocol.proofs.Asked.{ask_done, ask_refused, ask_omit, ask_lifts}
-use Rattle.logs.specs.Log.{log_of}
 use Rattle.logs.proofs.Logs.{log_length}
 use Rattle.cards.specs.LaneViews.{lane_fields}
 use Rattle.cards.specs.Sizes.{card_count}
-use Rattle.shipping.specs.Shipping.{unshippable, lanes_with, ship_part}
+use Rattle.shipping.specs.Lanes.{lanes_with}
+use Rattle.shipping.specs.Shipping.{unshippable, ship_part}
 use Rattle.rack.specs.Sound.{sound_card}
+use Rattle.rack.specs.Seats.{used_in}
 use Rattle.rack.specs.View.{part_of, view, sizes}
+use Rattle.rack.specs.declared.seat.Seat.{Seat}
 use Rattle.rack.specs.Written.{Written}
 use Rattle.rack.specs.declared.state.Rack.{Rack}
 use Rattle.rack.proofs.Sounds.{sound_shipped}
 use Rattle.rack.proofs.Frames.{framed_head, base_header}
-use Rattle.rack.proofs.Views.{view_written}
+use Rattle.rack.proofs.Views.{own_card, own_log, view_written}
 use Rattle.rack.proofs.Peers.{Pair, lane_is}
-use Rattle.rack.proofs.Calls.{own_card, own_log}
 use Rattle.rack.proofs.Exchanges.{with_lanes, with_both, both_same}
 
 -- a sound leader's diff has a head
@@ -36,7 +38,7 @@ shippable : (c : Card) (base : Header) (o : Option ℕ) (log : List EntryFields)
 shippable c base None log sound leads good few = ap not (framed_head c base (length (diff_entries c.current base log)) sound leads good (omega (arith, few, length-filter_both (inside base (c.current.0, c.current.1, 0)) (λ x. not (inside base (c.current.0, c.current.1, 0) x)) (λ _. refl) log)))
 shippable c base (Some k) log sound leads good few = refl
 
-module _ {S : Type 0} (r : Rack) (i j room : ℕ) (entries : List Entry) (ms : ℕ → S) (lanes : Lanes) (copy : Card) (pair : Pair r i j copy) (part : List Entry) (slice : part ≡ part_of r.places i entries) (used : ℕ) (counted : used ≡ get_or r.used (i - 1) 0) (count : ℕ) (wide : count ≡ card_count r.size) where
+module _ {S : Type 0} (r : Rack) (i j room : ℕ) (entries : List Entry) (ms : ℕ → S) (lanes : Lanes) (seat : Seat) (pair : Pair r i j seat) (seen : List Entry) (log_is : map entry_fields seen ≡ (view r entries ms lanes).logs i) (count : ℕ) (wide : count ≡ card_count r.size) where
   abbrev s : State S
   s = view r entries ms lanes
 
@@ -68,16 +70,13 @@ module _ {S : Type 0} (r : Rack) (i j room : ℕ) (entries : List Entry) (ms : �
   before = (own, s.lanes)
 
   abbrev after : Part
-  after = (with_peers (mark_shipped own.peers j (shipped_after (row_of own.peers j).shipped)) own, lanes_with i j due s.lanes)
+  after = (with_peers (mark_shipped own.peers j (shipped_after (row_of own.peers j).shipped)) own, lanes_with i j 0 due s.lanes)
 
   sound : sound_card own ≡ true
   sound = ap sound_card (own_card r i entries ms lanes pair.card) ∙ r.sound (i - 1)
 
-  log_is : log_of part used ≡ s.logs i
-  log_is = (λ t. log_of (slice t) (counted t)) ∙ sym (own_log r i entries ms lanes pair.card)
-
   few : length (s.logs i) ≤ 1024
-  few = omega (arith, ap length log_is, log_length part used, counted, r.fit (i - 1), r.few)
+  few = omega (arith, ap length (own_log r i entries ms lanes pair.card), log_length (part_of r.places i entries) (get_or (used_in r.seats) (i - 1) 0), r.fit (i - 1), r.few)
 
   lane : is_lane count i j 0 ≡ true
   lane = ap (λ m. is_lane m i j 0) wide ∙ lane_is n i j 0 pair.card pair.peer pair.apart refl
@@ -88,22 +87,22 @@ module _ {S : Type 0} (r : Rack) (i j room : ℕ) (entries : List Entry) (ms : �
       ∙ ask_omit first last (not (is_lane count i j 0)) NoSuchCard (Count (length due)) (shipped i j s) s (λ _. ap not lane)
       ∙ sym (ap (λ b. cond b (Err NoSuchCard, s) (ask (first ++ last) (Count (length due)) (shipped i j s) s)) pair.here)
 
-  from_part : ship_part count room i j (log_of part used) (copy, lane_fields lanes) ≡ ship_part count room i j (s.logs i) before
-  from_part = λ k. ship_part count room i j (log_is k) ((pair.copied ∙ sym (own_card r i entries ms lanes pair.card)) k, lane_fields lanes)
+  from_part : ship_part count room i j (map entry_fields seen) (seat.card, lane_fields lanes) ≡ ship_part count room i j (s.logs i) before
+  from_part = λ k. ship_part count room i j (log_is k) ((pair.found.card ∙ sym (own_card r i entries ms lanes pair.card)) k, lane_fields lanes)
 
-  pub ship_answered : (reply : Reply) (c : Card) (lanes' : Lanes) (r' : Rack) → (reply, (c, lane_fields lanes')) ≡ ship_part count room i j (log_of part used) (copy, lane_fields lanes) → Written r r' i c → (reply, view r' entries ms lanes') ≡ ship (sizes r room) i j s
+  pub ship_answered : (reply : Reply) (c : Card) (lanes' : Lanes) (r' : Rack) → (reply, (c, lane_fields lanes')) ≡ ship_part count room i j (map entry_fields seen) (seat.card, lane_fields lanes) → Written r r' i (record { card = c; used = seat.used }) r.tally → (reply, view r' entries ms lanes') ≡ ship (sizes r room) i j s
   ship_answered reply c lanes' r' e w =
-      (λ k. (reply, view_written r r' i c entries ms lanes' pair.card w k))
+      (λ k. (reply, view_written r r' i (record { card = c; used = seat.used }) r.tally entries ms lanes' pair.card w pair.found.used refl k))
       ∙ ask_lifts (λ p. with_both i p s) checks (Count (length due)) after before (c, lane_fields lanes') reply (e ∙ from_part)
       ∙ (λ k. ask checks (Count (length due)) (shipped i j s) (both_same i s k))
       ∙ at_rack
 
-  pub ship_refused : (why : Refusal) (c : Card) (lanes' : Lanes) → (Err why, (c, lane_fields lanes')) ≡ ship_part count room i j (log_of part used) (copy, lane_fields lanes) → (Err why, view r entries ms lanes') ≡ ship (sizes r room) i j s
+  pub ship_refused : (why : Refusal) (c : Card) (lanes' : Lanes) → (Err why, (c, lane_fields lanes')) ≡ ship_part count room i j (map entry_fields seen) (seat.card, lane_fields lanes) → (Err why, view r entries ms lanes') ≡ ship (sizes r room) i j s
   ship_refused why c lanes' e =
       let d = ask_refused checks [] (Count (length due)) (Count (length due)) why after before (c, lane_fields lanes') (shipped i j s) s (e ∙ from_part) in
       (λ k. (Err why, with_lanes (d.0 k).1 s)) ∙ d.1 ∙ at_rack
 
-  pub ship_sound : (said : Answer) (c : Card) (lanes' : Lanes) → (Ok said, (c, lane_fields lanes')) ≡ ship_part count room i j (log_of part used) (copy, lane_fields lanes) → sound_card c ≡ true
+  pub ship_sound : (said : Answer) (c : Card) (lanes' : Lanes) → (Ok said, (c, lane_fields lanes')) ≡ ship_part count room i j (map entry_fields seen) (seat.card, lane_fields lanes) → sound_card c ≡ true
   ship_sound said c lanes' e =
       let d = ask_done checks (Count (length due)) said after before (c, lane_fields lanes') (e ∙ from_part) in
       ap (λ (p : Part). sound_card p.0) d.2 ∙ sound_shipped own j (shipped_after (row_of own.peers j).shipped) sound

@@ -1,5 +1,5 @@
 -- submit, from its part on one card and its log.
-use Rattle.std.proofs.Common.{◌≡◌, ℕ, ◌+◌, ◌-◌, ◌*◌, Bool, true, false, cond, not, ◌||◌, ltb, leb, List, [], ◌∷◌, ◌++◌, length, get_or, Ok, Err, sym, refl, ap, ◌∙◌, arith}
+use Rattle.std.proofs.Common.{◌≡◌, ℕ, ◌+◌, ◌-◌, ◌*◌, Bool, true, false, cond, not, ◌||◌, ltb, leb, List, [], ◌∷◌, ◌++◌, length, Ok, Err, sym, refl, ap, ◌∙◌, arith}
 use Rattle.std.proofs.lemmas.Bool.{and_from, le-leb, ltb-false, not-false}
 use Rattle.refusals.specs.declared.Refusal.{Refusal}
 use Rattle.refusals.specs.declared.Refusal.TheVariants.{NoSuchCard, OutOfRange, Stopped, WrongRole, Malformed, LogFull, UsedUp}
@@ -7,7 +7,7 @@ use Rattle.backplane.specs.Lanes.{Lanes, is_card}
 use Rattle.frames.specs.Fields.{Words, EntryFields, is_entry_header}
 use Rattle.frames.specs.declared.entry.Entry.{Entry}
 use Rattle.logs.specs.Log.{log_of}
-use Rattle.protocol.specs.Rack.{State, Reply, ask, with_card, with_log, with_tally, is_leader, opened_card}
+use Rattle.protocol.specs.Rack.{State, Reply, ask, with_card, with_log, with_tally, is_leader}
 use Rattle.protocol.specs.Booking.{place_after, booked, accepted_up_to, submitted, submit}
 use Rattle.protocol.specs.declared.answer.Answer.{Answer}
 use Rattle.protocol.specs.declared.answer.Answer.TheVariants.{Placed}
@@ -17,11 +17,12 @@ use Rattle.cards.specs.Sizes.{card_count}
 use Rattle.card_log.specs.Parts.{is_booking, submit_log}
 use Rattle.rack.specs.Sound.{sound_card}
 use Rattle.rack.specs.View.{part_of, view, sizes}
-use Rattle.rack.specs.Written.{Changed}
+use Rattle.rack.specs.Written.{Written}
+use Rattle.rack.specs.declared.seat.Seat.{Seat}
 use Rattle.rack.specs.declared.state.Rack.{Rack}
 use Rattle.rack.proofs.Sounds.{sound_parts, sound_placed, place_entry}
 use Rattle.rack.proofs.Parts.{part_long, Replaced}
-use Rattle.rack.proofs.Calls.{own_card, own_log, put_back, view_changed}
+use Rattle.rack.proofs.Views.{Found, own_card, own_log, put_back, view_changed}
 
 -- a sound leader's next header is an entry's
 booking : (c : Card) (queue : ℕ) → sound_card c ≡ true → is_leader c.role ≡ true → leb 4294967294 c.accepted.2 ≡ false → ltb 15 queue ≡ false → is_booking (place_after c.accepted) queue ≡ true
@@ -48,7 +49,7 @@ module _ {S : Type 0} (r : Rack) (i queue capacity : ℕ) (payload : Words) (ent
   pub submit_queue : ltb 15 queue ≡ true → (Err OutOfRange, s) ≡ submit (sizes r capacity) i queue payload s
   submit_queue high = sym (ap (λ b. cond (not b) (Err NoSuchCard, s) (cond (ltb 15 queue) (Err OutOfRange, s) (ask checks next (submitted i queue payload s) s))) is ∙ ap (λ b. cond b (Err OutOfRange, s) (ask checks next (submitted i queue payload s) s)) high)
 
-  module _ (long : length entries ≡ card_count r.size * r.places) (low : ltb 15 queue ≡ false) (copy : Card) (copied : copy ≡ get_or r.cards (i - 1) opened_card) (part : List Entry) (slice : part ≡ part_of r.places i entries) (used : ℕ) (counted : used ≡ get_or r.used (i - 1) 0) where
+  module _ (long : length entries ≡ card_count r.size * r.places) (low : ltb 15 queue ≡ false) (seat : Seat) (found : Found r i seat) (part : List Entry) (slice : part ≡ part_of r.places i entries) where
     abbrev odd : Bool
     odd = not (is_booking (place_after own.accepted) queue)
 
@@ -75,25 +76,25 @@ module _ {S : Type 0} (r : Rack) (i queue capacity : ℕ) (payload : Words) (ent
         ask_omit checks [] odd Malformed next (submitted i queue payload s) s never
         ∙ sym (ap (λ b. cond (not b) (Err NoSuchCard, s) (cond (ltb 15 queue) (Err OutOfRange, s) (ask checks next (submitted i queue payload s) s))) is ∙ ap (λ b. cond b (Err OutOfRange, s) (ask checks next (submitted i queue payload s) s)) low)
 
-    from_part : submit_log (length part) queue payload (copy, log_of part used, r.tally) ≡ submit_log r.places queue payload before
-    from_part = λ k. submit_log ((ap length slice ∙ part_long (card_count r.size) i r.places entries is long) k) queue payload ((copied ∙ sym (own_card r i entries ms lanes is)) k, ((λ t. log_of (slice t) (counted t)) ∙ sym (own_log r i entries ms lanes is)) k, r.tally)
+    from_part : submit_log (length part) queue payload (seat.card, log_of part seat.used, r.tally) ≡ submit_log r.places queue payload before
+    from_part = λ k. submit_log ((ap length slice ∙ part_long (card_count r.size) i r.places entries is long) k) queue payload ((found.card ∙ sym (own_card r i entries ms lanes is)) k, ((λ t. log_of (slice t) (found.used t)) ∙ sym (own_log r i entries ms lanes is)) k, r.tally)
 
-    module _ (reply : Reply) (x : Part) (e : (reply, x) ≡ submit_log (length part) queue payload (copy, log_of part used, r.tally)) where
+    module _ (reply : Reply) (x : Part) (e : (reply, x) ≡ submit_log (length part) queue payload (seat.card, log_of part seat.used, r.tally)) where
       lifted : (reply, whole x) ≡ submit (sizes r capacity) i queue payload s
       lifted =
           ask_lifts whole (checks ++ (odd, Malformed) ∷ []) next after before x reply (e ∙ from_part)
           ∙ (λ k. ask (checks ++ (odd, Malformed) ∷ []) next (submitted i queue payload s) (put_back i s k))
           ∙ at_rack
 
-      pub submit_answered : (r' : Rack) (u : ℕ) (entries' part' : List Entry) → Changed r r' i x.0 u x.2 → x.1 ≡ log_of part' u → Replaced (card_count r.size) r.places i entries entries' part' → (reply, view r' entries' ms lanes) ≡ submit (sizes r capacity) i queue payload s
+      pub submit_answered : (r' : Rack) (u : ℕ) (entries' part' : List Entry) → Written r r' i (record { card = x.0; used = u }) x.2 → x.1 ≡ log_of part' u → Replaced (card_count r.size) r.places i entries entries' part' → (reply, view r' entries' ms lanes) ≡ submit (sizes r capacity) i queue payload s
       submit_answered r' u entries' part' ch log w =
-          (λ k. (reply, (view_changed r r' i x.0 u x.2 entries entries' part' ms lanes is ch w ∙ (λ t. with_card i x.0 (with_log i (sym log t) (with_tally x.2 s)))) k))
+          (λ k. (reply, (view_changed r r' i (record { card = x.0; used = u }) x.2 entries ms lanes is ch entries' part' w ∙ (λ t. with_card i x.0 (with_log i (sym log t) (with_tally x.2 s)))) k))
           ∙ lifted
 
-    pub submit_refused : (why : Refusal) (x : Part) → (Err why, x) ≡ submit_log (length part) queue payload (copy, log_of part used, r.tally) → (Err why, s) ≡ submit (sizes r capacity) i queue payload s
+    pub submit_refused : (why : Refusal) (x : Part) → (Err why, x) ≡ submit_log (length part) queue payload (seat.card, log_of part seat.used, r.tally) → (Err why, s) ≡ submit (sizes r capacity) i queue payload s
     submit_refused why x e = (ask_refused (checks ++ (odd, Malformed) ∷ []) [] next next why after before x (submitted i queue payload s) s (e ∙ from_part)).1 ∙ at_rack
 
-    pub submit_sound : (said : Answer) (x : Part) → (Ok said, x) ≡ submit_log (length part) queue payload (copy, log_of part used, r.tally) → sound_card x.0 ≡ true
+    pub submit_sound : (said : Answer) (x : Part) → (Ok said, x) ≡ submit_log (length part) queue payload (seat.card, log_of part seat.used, r.tally) → sound_card x.0 ≡ true
     submit_sound said x e =
         let d = ask_done (checks ++ (odd, Malformed) ∷ []) next said after before x (e ∙ from_part) in
         ap (λ (p : Part). sound_card p.0) d.2 ∙ sound_placed own sound (not-false (is_leader own.role) d.0.1.0) (or_left (leb 4294967294 own.accepted.2) (leb 18446744073709551615 r.tally) d.0.1.1.1.0)

@@ -1,5 +1,5 @@
 -- take, from its part on one card, its log and the lanes.
-use Rattle.std.proofs.Common.{◌≡◌, ℕ, ◌-◌, ◌*◌, Bool, true, false, cond, not, ◌&&◌, ◌||◌, eqb, ltb, List, [], ◌∷◌, length, get_or, Ok, Err, sym, refl, ap, ◌∙◌}
+use Rattle.std.proofs.Common.{◌≡◌, ℕ, ◌-◌, ◌*◌, Bool, true, false, cond, not, ◌&&◌, ◌||◌, eqb, ltb, List, [], ◌∷◌, length, Ok, Err, sym, refl, ap, ◌∙◌}
 use Rattle.std.proofs.lemmas.Bool.{not-false, and_parts}
 use Rattle.refusals.specs.declared.Refusal.{Refusal}
 use Rattle.refusals.specs.declared.Refusal.TheVariants.{NoSuchCard, Stopped, NothingDue, Malformed, OutOfTurn, LogFull}
@@ -17,12 +17,13 @@ use Rattle.cards.specs.Sizes.{card_count}
 use Rattle.taking.specs.Parts.{Held, front_gone, take_after, take_part}
 use Rattle.rack.specs.Sound.{sound_card}
 use Rattle.rack.specs.View.{part_of, view, sizes}
-use Rattle.rack.specs.Written.{Changed}
+use Rattle.rack.specs.Written.{Written}
+use Rattle.rack.specs.declared.seat.Seat.{Seat}
 use Rattle.rack.specs.declared.state.Rack.{Rack}
 use Rattle.rack.proofs.Sounds.{sound_taken}
 use Rattle.rack.proofs.Parts.{part_long, Replaced}
 use Rattle.rack.proofs.Peers.{Pair, lane_is, apart_back, front_frame}
-use Rattle.rack.proofs.Calls.{own_card, own_log, put_back, view_changed}
+use Rattle.rack.proofs.Views.{own_card, own_log, put_back, view_changed}
 use Rattle.rack.proofs.Exchanges.{with_lanes}
 
 -- what has a form is a message or a diff
@@ -31,7 +32,7 @@ or_and true b c e = refl
 or_and false true c e = refl
 or_and false false c e = e
 
-module _ {S : Type 0} (r : Rack) (i j room : ℕ) (entries : List Entry) (ms : ℕ → S) (lanes : Lanes) (long : length entries ≡ card_count r.size * r.places) (copy : Card) (pair : Pair r i j copy) (part : List Entry) (slice : part ≡ part_of r.places i entries) (used : ℕ) (counted : used ≡ get_or r.used (i - 1) 0) (count : ℕ) (wide : count ≡ card_count r.size) where
+module _ {S : Type 0} (r : Rack) (i j room : ℕ) (entries : List Entry) (ms : ℕ → S) (lanes : Lanes) (long : length entries ≡ card_count r.size * r.places) (seat : Seat) (pair : Pair r i j seat) (part : List Entry) (slice : part ≡ part_of r.places i entries) (count : ℕ) (wide : count ≡ card_count r.size) where
   abbrev s : State S
   s = view r entries ms lanes
 
@@ -74,7 +75,7 @@ module _ {S : Type 0} (r : Rack) (i j room : ℕ) (entries : List Entry) (ms : �
   there = ap (λ m. is_lane m j i 0) wide ∙ lane_is n j i 0 pair.peer pair.card (apart_back i j pair.apart) refl
 
   -- passed over or entered, the rack's state follows from the part's
-  after_is : (b : Bool) → whole (cond b (own, s.logs i, front_gone i j s.lanes) (taken_by own (front lane), log_after lane (s.logs i), front_gone i j s.lanes)) ≡ cond b (passed_over i j s) (entered i j s)
+  after_is : (b : Bool) → whole (cond b (own, s.logs i, front_gone i j 0 s.lanes) (taken_by own (front lane), log_after lane (s.logs i), front_gone i j 0 s.lanes)) ≡ cond b (passed_over i j s) (entered i j s)
   after_is true = put_back i (passed_over i j s)
   after_is false = refl
 
@@ -83,28 +84,28 @@ module _ {S : Type 0} (r : Rack) (i j room : ℕ) (entries : List Entry) (ms : �
       ask_omit ((own.stopped, Stopped) ∷ []) rest (not (is_lane count j i 0)) NoSuchCard answer (taken i j s) s (λ _. ap not there)
       ∙ sym (ap (λ b. cond b (Err NoSuchCard, s) (ask ((own.stopped, Stopped) ∷ rest) answer (taken i j s) s)) pair.here)
 
-  from_part : take_part count (length part) i j (copy, log_of part used, lane_fields lanes) ≡ take_part count r.places i j before
-  from_part = λ k. take_part count ((ap length slice ∙ part_long n i r.places entries pair.card long) k) i j ((pair.copied ∙ sym (own_card r i entries ms lanes pair.card)) k, ((λ t. log_of (slice t) (counted t)) ∙ sym (own_log r i entries ms lanes pair.card)) k, lane_fields lanes)
+  from_part : take_part count (length part) i j (seat.card, log_of part seat.used, lane_fields lanes) ≡ take_part count r.places i j before
+  from_part = λ k. take_part count ((ap length slice ∙ part_long n i r.places entries pair.card long) k) i j ((pair.found.card ∙ sym (own_card r i entries ms lanes pair.card)) k, ((λ t. log_of (slice t) (pair.found.used t)) ∙ sym (own_log r i entries ms lanes pair.card)) k, lane_fields lanes)
 
-  pub take_answered : (reply : Reply) (c : Card) (u : ℕ) (lanes' : Lanes) (entries' part' : List Entry) (r' : Rack) → (reply, (c, log_of part' u, lane_fields lanes')) ≡ take_part count (length part) i j (copy, log_of part used, lane_fields lanes) → Changed r r' i c u r.tally → Replaced n r.places i entries entries' part' → (reply, view r' entries' ms lanes') ≡ take_call (sizes r room) i j s
+  pub take_answered : (reply : Reply) (c : Card) (u : ℕ) (lanes' : Lanes) (entries' part' : List Entry) (r' : Rack) → (reply, (c, log_of part' u, lane_fields lanes')) ≡ take_part count (length part) i j (seat.card, log_of part seat.used, lane_fields lanes) → Written r r' i (record { card = c; used = u }) r.tally → Replaced n r.places i entries entries' part' → (reply, view r' entries' ms lanes') ≡ take_call (sizes r room) i j s
   take_answered reply c u lanes' entries' part' r' e ch w =
-      (λ k. (reply, view_changed r r' i c u r.tally entries entries' part' ms lanes' pair.card ch w k))
-      ∙ ask_lifts whole checks answer (take_after i j before) before (c, log_of part' u, lane_fields lanes') reply (e ∙ from_part)
+      (λ k. (reply, view_changed r r' i (record { card = c; used = u }) r.tally entries ms lanes' pair.card ch entries' part' w k))
+      ∙ ask_lifts whole checks answer (take_after i j 0 before) before (c, log_of part' u, lane_fields lanes') reply (e ∙ from_part)
       ∙ (λ k. ask checks answer (after_is low k) (put_back i s k))
       ∙ at_rack
 
-  pub take_refused : (why : Refusal) (x : Held) (lanes' : Lanes) → x.2 ≡ lane_fields lanes' → (Err why, x) ≡ take_part count (length part) i j (copy, log_of part used, lane_fields lanes) → (Err why, view r entries ms lanes') ≡ take_call (sizes r room) i j s
+  pub take_refused : (why : Refusal) (x : Held) (lanes' : Lanes) → x.2 ≡ lane_fields lanes' → (Err why, x) ≡ take_part count (length part) i j (seat.card, log_of part seat.used, lane_fields lanes) → (Err why, view r entries ms lanes') ≡ take_call (sizes r room) i j s
   take_refused why x lanes' same e =
-      let d = ask_refused checks [] answer answer why (take_after i j before) before x (taken i j s) s (e ∙ from_part) in
+      let d = ask_refused checks [] answer answer why (take_after i j 0 before) before x (taken i j s) s (e ∙ from_part) in
       (λ k. (Err why, with_lanes ((sym same ∙ (λ t. (d.0 t).2)) k) s)) ∙ d.1 ∙ at_rack
 
-  taken_sound : (b : Bool) → sound_card (taken_by own (front lane)) ≡ true → sound_card (cond {A = Held} b (own, s.logs i, front_gone i j s.lanes) (taken_by own (front lane), log_after lane (s.logs i), front_gone i j s.lanes)).0 ≡ true
+  taken_sound : (b : Bool) → sound_card (taken_by own (front lane)) ≡ true → sound_card (cond {A = Held} b (own, s.logs i, front_gone i j 0 s.lanes) (taken_by own (front lane), log_after lane (s.logs i), front_gone i j 0 s.lanes)).0 ≡ true
   taken_sound true t = sound
   taken_sound false t = t
 
-  pub take_sound : (said : Answer) (x : Held) → (Ok said, x) ≡ take_part count (length part) i j (copy, log_of part used, lane_fields lanes) → sound_card x.0 ≡ true
+  pub take_sound : (said : Answer) (x : Held) → (Ok said, x) ≡ take_part count (length part) i j (seat.card, log_of part seat.used, lane_fields lanes) → sound_card x.0 ≡ true
   take_sound said x e =
-      let d = ask_done checks answer said (take_after i j before) before x (e ∙ from_part) in
+      let d = ask_done checks answer said (take_after i j 0 before) before x (e ∙ from_part) in
       let well = not-false (formed j lane) d.0.1.1.1.0 in
       let kind = or_and (is_message (front lane)) (is_diff (front lane)) (whole_diff lane) (and_parts (is_message (front lane) || (is_diff (front lane) && whole_diff lane)) (eqb (front lane).leader j) well).0 in
       ap (λ (p : Held). sound_card p.0) d.2

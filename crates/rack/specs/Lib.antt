@@ -1,6 +1,7 @@
 pub mod Faults
+pub mod Opening
+pub mod Reading
+pub mod Seats
 pub mod Sound
 pub mod View
 pub mod Written
-pub mod Opening
-pub mod Reading

@@ -8,6 +8,7 @@ use Rattle.protocol.specs.Rack.{Sizes, State, Reply, opened_card}
 use Rattle.logs.specs.Log.{log_of}
 use Rattle.cards.specs.LaneViews.{lane_fields}
 use Rattle.cards.specs.Sizes.{card_count}
+use Rattle.rack.specs.Seats.{cards_in, used_in}
 use Rattle.rack.specs.declared.state.Rack.{Rack}
 
 -- what a card number names, and what there is where it names none
@@ -31,8 +32,8 @@ machines_of n state initial ms = by_card n initial (map state ms)
 
 abbrev pub view : {S : Type 0} → Rack → List Entry → (ℕ → S) → Lanes → State S
 view r entries machines lanes = record {
-  cards = by_card (card_count r.size) opened_card r.cards;
-  logs = logs_of (card_count r.size) r.places r.used entries;
+  cards = by_card (card_count r.size) opened_card (cards_in r.seats);
+  logs = logs_of (card_count r.size) r.places (used_in r.seats) entries;
   tally = r.tally;
   machines = machines;
   lanes = lane_fields lanes;

@@ -11,10 +11,14 @@ ghost use Rattle.rack.specs.View.{view, sizes, machines_of, entries_fit, machine
 
 use crate::fault::RackFault;
 use crate::state::Rack;
+use frames::make::LAST_QUEUE;
 use frames::{Entry, Words};
+use logs::Log;
 use machines::Machine;
 use marks::Header;
 
+// Kept: a call's checks stand in it one by one, in the order of their refusals' numbers, as its definition lists them. A
+// function for each would take the order out of sight.
 impl Rack {
     // Appends an entry to the leader's log.
     pub fn submit(
@@ -28,25 +32,24 @@ impl Rack {
         ensures sizes { sizes self.new 0 ≡ sizes self.old 0 }
         ensures stays { OnErr result (entries.new ≡ entries.old) }
     {
-        let mut own = self.card(card)?;
-        if entries.len() != self.total {
+        let mut seat = self.seat(card)?;
+        if entries.len() != self.total() {
             return Err(RackFault::WrongSize);
         }
-        if 15 < queue {
+        if LAST_QUEUE < queue {
             return Err(RackFault::OutOfRange);
         }
-        let mut used = self.used_by(card);
         let mut tally = self.tally;
-        let (low, high) = self.span(card);
-        let header = card_log::submit(
-            &mut own,
-            &mut entries[low..high],
-            &mut used,
-            &mut tally,
-            queue,
-            payload,
-        )?;
-        self.put_all(card, own, used, tally);
+        let (_, rest) = entries.split_at_mut(self.start(card));
+        let (places, _) = rest.split_at_mut(self.places);
+        let mut log = Log {
+            places,
+            used: seat.used,
+        };
+        let header = card_log::submit(&mut seat.card, &mut log, &mut tally, queue, payload)?;
+        seat.used = log.used;
+        self.put(card, seat);
+        self.tally = tally;
         Ok(header)
     }
 
@@ -61,22 +64,14 @@ impl Rack {
         ensures sizes { sizes self.new 0 ≡ sizes self.old 0 }
         ensures stays { OnErr result (machines.new ≡ machines.old) }
     {
-        let mut own = self.card(card)?;
-        if entries.len() != self.total || machines.len() != self.size.cards() as usize {
+        let mut seat = self.seat(card)?;
+        let log = self.log(entries, card)?;
+        if machines.len() != self.size.cards() as usize {
             return Err(RackFault::WrongSize);
         }
-        let used = self.used_by(card);
-        let (low, high) = self.span(card);
         let machine = &mut machines[card as usize - 1];
-        let count = card_log::commit(
-            &mut own,
-            &entries[low..high],
-            used,
-            machine,
-            self.size,
-            card,
-        )?;
-        self.put(card, own);
+        let count = card_log::commit(&mut seat.card, log, machine, self.member(card))?;
+        self.put(card, seat);
         Ok(count as u32)
     }
 }

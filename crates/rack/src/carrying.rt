@@ -11,8 +11,11 @@ use crate::fault::RackFault;
 use crate::state::Rack;
 use backplane::Backplane;
 use frames::Entry;
+use logs::Log;
 use protocol::Intake;
 
+// Kept: a call's checks stand in it one by one, in the order of their refusals' numbers, as its definition lists them. A
+// function for each would take the order out of sight.
 impl Rack {
     // Sends what is due to a peer: a diff first, then message by message.
     pub fn ship<B: Backplane>(
@@ -27,14 +30,13 @@ impl Rack {
         ensures count { B.Backplane.count backplane.new ≡ B.Backplane.count backplane.old }
         ensures room { B.Backplane.room backplane.new ≡ B.Backplane.room backplane.old }
     {
-        let mut own = self.card_to(card, peer)?;
-        if entries.len() != self.total || backplane.cards() != self.size.cards() {
+        let mut seat = self.seat_to(card, peer)?;
+        let log = self.log(entries, card)?;
+        if backplane.cards() != self.size.cards() {
             return Err(RackFault::WrongSize);
         }
-        let used = self.used_by(card);
-        let (low, high) = self.span(card);
-        let frames = shipping::ship(&mut own, &entries[low..high], used, backplane, card, peer)?;
-        self.put(card, own);
+        let frames = shipping::ship(&mut seat.card, log, backplane, card, peer)?;
+        self.put(card, seat);
         Ok(frames)
     }
 
@@ -52,21 +54,19 @@ impl Rack {
         ensures count { B.Backplane.count backplane.new ≡ B.Backplane.count backplane.old }
         ensures room { B.Backplane.room backplane.new ≡ B.Backplane.room backplane.old }
     {
-        let mut own = self.card_to(card, peer)?;
-        if entries.len() != self.total || backplane.cards() != self.size.cards() {
+        let mut seat = self.seat_to(card, peer)?;
+        if entries.len() != self.total() || backplane.cards() != self.size.cards() {
             return Err(RackFault::WrongSize);
         }
-        let mut used = self.used_by(card);
-        let (low, high) = self.span(card);
-        let intake = taking::take(
-            &mut own,
-            &mut entries[low..high],
-            &mut used,
-            backplane,
-            card,
-            peer,
-        )?;
-        self.put_all(card, own, used, self.tally);
+        let (_, rest) = entries.split_at_mut(self.start(card));
+        let (places, _) = rest.split_at_mut(self.places);
+        let mut log = Log {
+            places,
+            used: seat.used,
+        };
+        let intake = taking::take(&mut seat.card, &mut log, backplane, card, peer)?;
+        seat.used = log.used;
+        self.put(card, seat);
         Ok(intake)
     }
 }

@@ -6,7 +6,7 @@ ghost use Rattle.rack.specs.declared.fault.RackFault.TheVariants.{Card as OfCard
 use cards::CardFault;
 use refusals::Refusal;
 
-#[derive(Clone, Copy, Debug)]
+#[derive(Clone, Copy, PartialEq, Eq, Debug)]
 pub enum RackFault {
     Card(CardFault),
     NoSuchCard,

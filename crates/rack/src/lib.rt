@@ -8,8 +8,10 @@ pub mod fault;
 pub mod opening;
 pub mod reading;
 pub mod rows;
+pub mod seat;
 pub mod state;
 pub mod voting;
 
 pub use fault::RackFault;
+pub use seat::Seat;
 pub use state::Rack;

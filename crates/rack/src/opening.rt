@@ -5,12 +5,12 @@ ghost use Rattle.rack.specs.Opening.{Opening, Promises, StandsAlone};
 ghost use Rattle.rack.specs.View.{sizes};
 
 use crate::fault::RackFault;
+use crate::seat::Seat;
 use crate::state::Rack;
 use backplane::{Backplane, is_quiet};
 use cards::RackSize;
 use frames::Entry;
 use machines::Machine;
-use protocol::Card;
 
 // The most places that a log may have.
 pub const MOST_PLACES: usize = 1024;
@@ -36,7 +36,7 @@ impl Rack {
         ensures laws { IfOk result (λ rack. Promises M.Machine.initial (λ q w. M.Machine.applied q (M.Machine.unpacked w)) (sizes rack (B.Backplane.room backplane.now))) }
         ensures lone { IfOk result (λ rack. StandsAlone M.Machine.initial M.Machine.applied M.Machine.unpacked (sizes rack (B.Backplane.room backplane.now))) }
     {
-        let Ok(size) = RackSize::new(cards) else {
+        let Ok(size) = RackSize::try_from(cards) else {
             return Err(RackFault::WrongSize);
         };
         if places < 1 || MOST_PLACES < places {
@@ -53,10 +53,8 @@ impl Rack {
         Ok(Rack {
             size,
             places,
-            total,
             tally: 0,
-            cards: [Card::opened(); 7],
-            used: [0; 7],
+            seats: [Seat::opened(); 7],
         })
     }
 }

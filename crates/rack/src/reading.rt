@@ -1,5 +1,5 @@
 // Reading: a card's delivered list and its log, also of a stopped card.
-ghost use Rattle.std.specs.Prelude.{◌≡◌, ◌*◌, ◌&&◌, ◌==◌};
+ghost use Rattle.std.specs.Prelude.{◌≡◌, ◌*◌, ◌≤◌, ◌&&◌, ◌==◌, IfOk, length};
 ghost use Rattle.cards.specs.Sizes.{card_count};
 ghost use Rattle.backplane.specs.Lanes.{empty_lanes};
 ghost use Rattle.protocol.specs.Rack.{no_card};
@@ -21,27 +21,22 @@ impl Rack {
     ) -> Result<usize, RackFault>
         ensures { ReadOut (no_card (sizes self.now 0) card) (entries_fit self.now entries.now) (reading (view self.now entries.now (λ _. tt {0}) empty_lanes) card) out.old out.new result }
     {
-        let own = self.card(card)?;
-        if entries.len() != self.total {
-            return Err(RackFault::WrongSize);
-        }
-        let (low, high) = self.span(card);
-        match logs::read_up_to(&entries[low..high], self.used_by(card), own.committed, out) {
-            Some(count) => Ok(count),
-            None => Err(RackFault::WrongSize),
-        }
+        let seat = self.seat(card)?;
+        let log = self.log(entries, card)?;
+        logs::read_up_to(log, seat.card.committed, out).ok_or(RackFault::WrongSize)
     }
 
     // The entries of a card's log, the oldest first.
     pub fn log<'a>(&self, entries: &'a [Entry], card: u8) -> Result<&'a [Entry], RackFault>
-        ensures { LogSeen (no_card (sizes self.now 0) card) (entries_fit self.now entries.now) ((view self.now entries.now (λ _. tt {0}) empty_lanes).logs card) result }
+        ensures seen { LogSeen (no_card (sizes self.now 0) card) (entries_fit self.now entries.now) ((view self.now entries.now (λ _. tt {0}) empty_lanes).logs card) result }
+        ensures few { IfOk result (λ seen. length seen.now ≤ self.now.places) }
     {
-        let _ = self.card(card)?;
-        if entries.len() != self.total {
+        let seat = self.seat(card)?;
+        if entries.len() != self.total() {
             return Err(RackFault::WrongSize);
         }
-        let (low, _) = self.span(card);
-        Ok(&entries[low..low + self.used_by(card)])
+        let low = self.start(card);
+        Ok(&entries[low..low + seat.used])
     }
 
     // How many submits were accepted.
@@ -55,7 +50,7 @@ impl Rack {
     pub fn fits(&self, entries: usize, machines: usize, cards: u8) -> bool
         ensures { result ≡ (entries == card_count self.now.size * self.now.places && (machines == card_count self.now.size && cards == card_count self.now.size)) }
     {
-        entries == self.total
+        entries == self.total()
             && machines == self.size.cards() as usize
             && cards == self.size.cards()
     }

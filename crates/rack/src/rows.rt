@@ -9,8 +9,12 @@ ghost use Rattle.rack.specs.View.{view, sizes, cards_fit, lent};
 
 use crate::fault::RackFault;
 use crate::state::Rack;
-use backplane::Backplane;
+use backplane::{Backplane, Lane};
 
+// Kept: a call's checks stand in it one by one, in the order of their refusals' numbers, as its definition lists them. A
+// function for each would take the order out of sight.
+// Kept: numbers for cards and kinds. A caller may give any, and those that name nothing are refused by 1 and by 3;
+// `Kind::try_from` would take 1 to 3 as well, and refuse the rest by 8.
 impl Rack {
     // Sends the card's row of a kind to a peer.
     pub fn push<B: Backplane>(
@@ -24,14 +28,19 @@ impl Rack {
         ensures count { B.Backplane.count backplane.new ≡ B.Backplane.count backplane.old }
         ensures room { B.Backplane.room backplane.new ≡ B.Backplane.room backplane.old }
     {
-        let own = self.card_to(card, peer)?;
+        let seat = self.seat_to(card, peer)?;
         if backplane.cards() != self.size.cards() {
             return Err(RackFault::WrongSize);
         }
         if kind < 4 || 6 < kind {
             return Err(RackFault::OutOfRange);
         }
-        exchange::push(&own, backplane, card, peer, kind)?;
+        let lane = Lane {
+            from: card,
+            to: peer,
+            number: kind,
+        };
+        exchange::push(&seat.card, backplane, lane)?;
         Ok(())
     }
 
@@ -48,20 +57,19 @@ impl Rack {
         ensures count { B.Backplane.count backplane.new ≡ B.Backplane.count backplane.old }
         ensures room { B.Backplane.room backplane.new ≡ B.Backplane.room backplane.old }
     {
-        let _own = self.card_to(card, peer)?;
+        self.seat_to(card, peer)?;
         if backplane.cards() != self.size.cards() {
             return Err(RackFault::WrongSize);
         }
         if kind < 4 || 6 < kind {
             return Err(RackFault::OutOfRange);
         }
-        exchange::look(
-            &mut self.cards[card as usize - 1],
-            backplane,
-            card,
-            peer,
-            kind,
-        )?;
+        let lane = Lane {
+            from: peer,
+            to: card,
+            number: kind,
+        };
+        exchange::look(&mut self.seats[card as usize - 1].card, backplane, lane)?;
         Ok(())
     }
 }

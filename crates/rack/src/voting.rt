@@ -13,15 +13,17 @@ use crate::state::Rack;
 use marks::Epoch;
 use protocol::Choice;
 
+// Kept: four calls that are alike but for what they ask of the card. The contract of each is an equation by its own definition;
+// one function over a closure could only say what the closure says.
 impl Rack {
     // The card votes for itself in the least epoch that it leads above those it knows of.
     pub fn timeout(&mut self, card: u8) -> Result<Epoch, RackFault>
         ensures step { (entries : Listing AnEntry) (lanes : Lanes) → (told ForEpoch result, view self.new entries (λ _. tt {0}) lanes) ≡ timeout (sizes self.old 0) card (view self.old entries (λ _. tt {0}) lanes) }
         ensures sizes { sizes self.new 0 ≡ sizes self.old 0 }
     {
-        let mut own = self.card(card)?;
-        let epoch = cards::voting::timeout(&mut own, self.size, card)?;
-        self.put(card, own);
+        let mut seat = self.seat(card)?;
+        let epoch = self.member(card).timeout(&mut seat.card)?;
+        self.put(card, seat);
         Ok(epoch)
     }
 
@@ -30,9 +32,9 @@ impl Rack {
         ensures step { (entries : Listing AnEntry) (lanes : Lanes) → (told Chose result, view self.new entries (λ _. tt {0}) lanes) ≡ elect (sizes self.old 0) card (view self.old entries (λ _. tt {0}) lanes) }
         ensures sizes { sizes self.new 0 ≡ sizes self.old 0 }
     {
-        let mut own = self.card(card)?;
-        let choice = cards::voting::elect(&mut own, self.size, card)?;
-        self.put(card, own);
+        let mut seat = self.seat(card)?;
+        let choice = self.member(card).elect(&mut seat.card)?;
+        self.put(card, seat);
         Ok(choice)
     }
 
@@ -41,9 +43,9 @@ impl Rack {
         ensures step { (entries : Listing AnEntry) (lanes : Lanes) → (told ForEpoch result, view self.new entries (λ _. tt {0}) lanes) ≡ win (sizes self.old 0) card (view self.old entries (λ _. tt {0}) lanes) }
         ensures sizes { sizes self.new 0 ≡ sizes self.old 0 }
     {
-        let mut own = self.card(card)?;
-        let epoch = cards::voting::win(&mut own, self.size, card)?;
-        self.put(card, own);
+        let mut seat = self.seat(card)?;
+        let epoch = self.member(card).win(&mut seat.card)?;
+        self.put(card, seat);
         Ok(epoch)
     }
 
@@ -52,9 +54,9 @@ impl Rack {
         ensures step { (entries : Listing AnEntry) (lanes : Lanes) → (told (λ _. Done) result, view self.new entries (λ _. tt {0}) lanes) ≡ stop (sizes self.old 0) card (view self.old entries (λ _. tt {0}) lanes) }
         ensures sizes { sizes self.new 0 ≡ sizes self.old 0 }
     {
-        let mut own = self.card(card)?;
-        cards::voting::stop(&mut own)?;
-        self.put(card, own);
+        let mut seat = self.seat(card)?;
+        cards::voting::stop(&mut seat.card)?;
+        self.put(card, seat);
         Ok(())
     }
 }

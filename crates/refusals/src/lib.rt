@@ -24,6 +24,7 @@ pub enum Refusal {
 
 impl Refusal {
     // The number by which a caller is told.
+    // Kept: a method, here and at other enums with numbers. Its name says which number it is; a `From` for u8 would not.
     pub fn number(self) -> u8
         ensures { result ≡ refusal_number self }
     {

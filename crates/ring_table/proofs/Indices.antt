@@ -1,10 +1,10 @@
 -- Different lanes have different rings.
-use Rattle.std.proofs.Common.{◌≡◌, ℕ, ◌+◌, ◌-◌, ◌*◌, ◌/◌, ◌<◌, ◌≤◌, true, sym, ap, ◌∙◌, arith}
-use Rattle.std.proofs.lemmas.Nat.{div-mul-add}
-use Rattle.std.proofs.lemmas.Bool.{eq-eqb}
+use Rattle.std.proofs.Common.{◌≡◌, ℕ, ◌+◌, ◌-◌, ◌*◌, ◌/◌, ◌<◌, ◌≤◌, true, Ok, sym, ap, ◌∙◌, arith}
+use Rattle.std.proofs.lemmas.Nat.{div-mul-add, mul-add-lt, mul-le}
+use Rattle.std.proofs.lemmas.Bool.{eq-eqb, le-leb, ne_eqb}
 use Rattle.std.proofs.lemmas.Bool.Decides.{nat_tests}
 use Rattle.backplane.specs.Lanes.{is_lane, is_lane_number, same_lane}
-use Rattle.ring_table.specs.Index.{lane_row, lane_index}
+use Rattle.ring_table.specs.Index.{lane_row, lane_index, Indexed}
 
 -- what a lane that there is has
 pub record Real (n f t l : ℕ) : Type 0 where
@@ -43,3 +43,14 @@ index_apart n f t l f' t' l' h h' e =
     let ef : f' ≡ f = omega (arith, pairs.0) in
     let et : t' ≡ t = omega (arith, pairs.1) in
     rw (eq-eqb f' f ef, eq-eqb t' t et, eq-eqb l' l (row_apart l' l r'.number r.number rows.1))
+
+-- a lane that there is, by its row
+pub indexed : (n f t l row : ℕ) → n ≤ 7 → 1 ≤ f → f ≤ n → 1 ≤ t → t ≤ n → (f ≡ t → ⊥) → is_lane_number l ≡ true → row ≡ lane_row l → row < 4 → Indexed n f t l (Ok (((f - 1) * n + (t - 1)) * 4 + row))
+indexed n f t l row few a b c d e known is small =
+    let place = mul-add-lt (f - 1) n (t - 1) n (omega arith) (omega arith) in
+    let square = mul-le n n 7 7 few few in (
+      rw (le-leb 1 f a, le-leb f n b, le-leb 1 t c, le-leb t n d, ne_eqb f t e, known),
+      rw is,
+      omega (arith, place),
+      omega (arith, place, square),
+    )

@@ -1,3 +1,4 @@
+pub mod Ring
 pub mod Index
 pub mod Rings
 pub mod Table

@@ -3,7 +3,9 @@ use Rattle.std.specs.Prelude.{◌≡◌, ℕ, ◌+◌, ◌-◌, ◌*◌, ◌<◌
 use Rattle.std.specs.List.{range_with_len}
 use Rattle.backplane.specs.declared.fault.LaneFault.{LaneFault}
 use Rattle.backplane.specs.Lanes.{LanesOf, is_lane, send_out, send_lanes}
+use Rattle.ring_table.specs.declared.ring.Ring.{Ring}
 use Rattle.ring_table.specs.Index.{lane_index}
+use Rattle.ring_table.specs.Ring.{ring_at}
 use Rattle.ring_table.specs.Shapes.{slots_of}
 
 abbrev pub wrapped : ℕ → ℕ → ℕ
@@ -12,12 +14,12 @@ wrapped c place = cond (nat_lt place c) place (place - c)
 abbrev pub ring_slot : ℕ → ℕ → ℕ → ℕ → ℕ
 ring_slot c i head k = i * c + wrapped c (head + k)
 
-unfoldable pub ring_slots : ℕ → ℕ → ℕ → ℕ → List ℕ
-ring_slots c i head count = map (ring_slot c i head) (range_with_len 0 count)
+unfoldable pub ring_slots : ℕ → ℕ → Ring → List ℕ
+ring_slots c i ring = map (ring_slot c i ring.head) (range_with_len 0 ring.count)
 
 -- of n cards: the slots in which the frames of each lane wait, in order
-unfoldable pub slots_in : ℕ → ℕ → List ℕ → List ℕ → LanesOf ℕ
-slots_in n c heads counts f t l = cond (is_lane n f t l) (ring_slots c (lane_index n f t l) (slice_index heads (lane_index n f t l)) (slice_index counts (lane_index n f t l))) []
+unfoldable pub slots_in : ℕ → ℕ → List Ring → LanesOf ℕ
+slots_in n c rings f t l = cond (is_lane n f t l) (ring_slots c (lane_index n f t l) (ring_at rings (lane_index n f t l))) []
 
 -- no frame of any lane waits in slot j
 abbrev pub Free : LanesOf ℕ → ℕ → Type 0

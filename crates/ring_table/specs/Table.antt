@@ -5,4 +5,4 @@ use Rattle.ring_table.specs.declared.table.RingTable.{RingTable}
 use Rattle.ring_table.specs.Rings.{slots_in}
 
 abbrev pub slots : RingTable → LanesOf ℕ
-slots t = slots_in t.cards t.room t.heads t.counts
+slots t = slots_in t.shape.cards t.shape.room t.rings

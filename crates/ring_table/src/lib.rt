@@ -2,8 +2,10 @@
 #![tactic(auto)]
 
 mod index;
+pub mod ring;
 pub mod shape;
 pub mod table;
 
+pub use ring::Ring;
 pub use shape::Shape;
 pub use table::RingTable;

@@ -1,6 +1,7 @@
 -- What the rings' slots hold after each call.
 use Rattle.std.proofs.Common.{◌≡◌, ℕ, zero, suc, ◌+◌, ◌*◌, ◌<◌, ◌≤◌, Bool, true, false, cond, ◌&&◌, ltb, leb, List, [], ◌∷◌, ◌++◌, length, drop, is_ok, Ok, Err, Result, sym, refl, ap, ◌∙◌, subst, arith}
 use Rattle.std.specs.Option.{ok_or}
+use Rattle.std.specs.Result.{IsOk}
 use Rattle.std.specs.List.{slice_get}
 use Rattle.std.proofs.lemmas.Bool.{and_parts, true≢false}
 use Rattle.refusals.specs.declared.Refusal.{Refusal}
@@ -69,9 +70,9 @@ module _ (n c : ℕ) (S : LanesOf ℕ) (bytes : List ℕ) (f t l : ℕ) where
   pub none_waiting : (k : ℕ) (e : LaneFault) → Err e ≡ frame_out n S f t l k → Err e ≡ frame_out n (through (frame_at bytes) S) f t l k
   none_waiting k e found = ap (held (frame_at bytes)) found ∙ through_frame (frame_at bytes) n c S f t l k
 
-  pub waiting_reads : (k j : ℕ) (e : Refusal) → Passes (through (is_frame_at bytes) S) → Ok j ≡ frame_out n S f t l k → Err e ≡ read_slot bytes j → ⊥
-  waiting_reads k j e old found read =
-      true≢false (sym (passes_at n (through (is_frame_at bytes) S) f t l k (is_frame_at bytes j) old (ap (held (is_frame_at bytes)) found ∙ through_frame (is_frame_at bytes) n c S f t l k)) ∙ ap is_ok (sym read))
+  pub waiting_reads : (k j : ℕ) (r : Result Frame Refusal) → Passes (through (is_frame_at bytes) S) → Ok j ≡ frame_out n S f t l k → r ≡ read_slot bytes j → IsOk r
+  waiting_reads k j r old found read =
+      ap is_ok read ∙ passes_at n (through (is_frame_at bytes) S) f t l k (is_frame_at bytes j) old (ap (held (is_frame_at bytes)) found ∙ through_frame (is_frame_at bytes) n c S f t l k)
 
   -- a waiting frame's own bytes stand in its slot
   pub waiting_bytes : (k j : ℕ) → Passes (through (is_frame_at bytes) S) → slots_of n c * 48 ≤ length bytes → j < slots_of n c → Ok j ≡ frame_out n S f t l k → Holds bytes (j * 48) (frame_out n (through (frame_at bytes) S) f t l k)

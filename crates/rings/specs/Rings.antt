@@ -13,8 +13,8 @@ rings_bytes s = s.store.bytes.now
 abbrev pub rings_lanes : Rings → Lanes
 rings_lanes s = through (frame_at (rings_bytes s)) (slots s.table)
 
-pub rings_within : (s : Rings) (f t l : ℕ) → length (rings_lanes s f t l) ≤ s.table.room
+pub rings_within : (s : Rings) (f t l : ℕ) → length (rings_lanes s f t l) ≤ s.table.shape.room
 rings_within s f t l = through_within (frame_at (rings_bytes s)) s.table f t l
 
-pub rings_nowhere : (s : Rings) (f t l : ℕ) → is_lane s.table.cards f t l ≡ false → rings_lanes s f t l ≡ []
+pub rings_nowhere : (s : Rings) (f t l : ℕ) → is_lane s.table.shape.cards f t l ≡ false → rings_lanes s f t l ≡ []
 rings_nowhere s f t l isnt = through_nowhere (frame_at (rings_bytes s)) s.table f t l isnt

@@ -1,5 +1,6 @@
 -- What the slots of some bytes hold: slot j begins at byte 48 × j.
-use Rattle.std.specs.Prelude.{◌≡◌, ℕ, ◌+◌, ◌*◌, ◌≤◌, Bool, true, false, ◌&&◌, List, [], ◌∷◌, length, take, drop, is_ok, Ok, Err, Result, ◌==◌}
+use Rattle.std.specs.Prelude.{◌≡◌, ℕ, ◌+◌, ◌*◌, ◌≤◌, Bool, true, false, ◌&&◌, List, length, take, drop, is_ok, Ok, Err, Result, ◌==◌}
+use Rattle.std.specs.List.{list_all}
 use Rattle.refusals.specs.declared.Refusal.{Refusal}
 use Rattle.refusals.specs.declared.Refusal.TheVariants.{WrongSize}
 use Rattle.frames.specs.declared.frame.Frame.{Frame}
@@ -26,8 +27,7 @@ abbrev pub is_frame_at : List ℕ → ℕ → Bool
 is_frame_at bytes j = is_ok (read_slot bytes j)
 
 abbrev pub every : List Bool → Bool
-every [] = true
-every (b ∷ bs) = b && every bs
+every = list_all (λ b. b)
 
 -- a buffer of n × n × 4 × c × 48 bytes
 abbrev pub ShapeFor : ℕ → ℕ → ℕ → Result Shape Refusal → Type 0

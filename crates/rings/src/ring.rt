@@ -16,6 +16,6 @@ pub use calls::shape_for;
 pub struct Rings<'a> {
     store: Store<'a>,
     table: RingTable,
-    ghost long: { slots_of table.cards table.room * 48 ≤ length store.bytes.now },
+    ghost long: { slots_of table.shape.cards table.shape.room * 48 ≤ length store.bytes.now },
     ghost frames: { (f t l : ℕ) → every (through (is_frame_at store.bytes.now) (slots table) f t l) ≡ true },
 }

@@ -16,8 +16,7 @@ impl Store<'_> {
         requires { slot * 48 + 48 ≤ length self.old.bytes.now }
         ensures { self.new.bytes.now ≡ wrote_at frame self.old.bytes.now (slot * 48) }
     {
-        // the slot lies within the bytes: this is never refused
-        let _ = write_slot(&mut self.bytes[..], slot * SLOT, frame);
+        write_slot(&mut self.bytes[..], slot * SLOT, frame).unwrap()
     }
 
     pub(crate) fn read(&self, slot: usize) -> Result<Frame, Refusal>

@@ -1,5 +1,5 @@
 -- What the tests of a lane say of frames that are to enter it.
-use Rattle.std.proofs.Common.{◌≡◌, ℕ, ◌+◌, ◌≤◌, Bool, true, false, cond, not, eqb, ltb, List, [], length, Ok, Err, Result, sym, refl, ap, ◌∙◌, arith}
+use Rattle.std.proofs.Common.{◌≡◌, ℕ, ◌+◌, ◌≤◌, Bool, true, false, cond, not, eqb, ltb, List, length, Ok, Err, Result, sym, refl, ap, ◌∙◌, arith}
 use Rattle.std.proofs.lemmas.List.{length-map}
 use Rattle.std.proofs.lemmas.Bool.{ltb-false}
 use Rattle.refusals.specs.declared.Refusal.TheVariants.{NoSuchCard, NothingDue, Malformed, LaneFull}
@@ -12,9 +12,8 @@ use Rattle.backplane.specs.Lanes.{Lanes, LanesOf, is_lane}
 use Rattle.protocol.specs.Rack.{Reply}
 use Rattle.protocol.specs.declared.answer.Answer.TheVariants.{Count}
 use Rattle.cards.specs.LaneViews.{lane_fields}
-use Rattle.shipping.specs.Lanes.{room_out, Sending}
-use Rattle.shipping.specs.Shipping.{lanes_with, enter_part}
-use Rattle.shipping.proofs.Sends.{sending_all}
+use Rattle.shipping.specs.Lanes.{room_out, lanes_with}
+use Rattle.shipping.specs.Shipping.{enter_part}
 
 abbrev Left : Type 0
 Left = Reply × LanesOf FrameFields
@@ -40,46 +39,45 @@ look_passed true false h = (refl, refl)
 look_passed true true h = let z : ◌≡◌ {A = ℕ} 0 1 = cc in absurd (omega arith)
 look_passed false full h = let z : ◌≡◌ {A = ℕ} 0 1 = cc in absurd (omega arith)
 
-pub room_there : (n room i j waiting k : ℕ) → Ok tt ≡ room_out n room i j waiting k → (is_lane n i j 0 ≡ true) × (waiting + k ≤ room)
-room_there n room i j waiting k h =
-    let p = look_passed (is_lane n i j 0) (ltb room (waiting + k)) h in
+pub room_there : (n room f t l waiting k : ℕ) → Ok tt ≡ room_out n room f t l waiting k → (is_lane n f t l ≡ true) × (waiting + k ≤ room)
+room_there n room f t l waiting k h =
+    let p = look_passed (is_lane n f t l) (ltb room (waiting + k)) h in
     (p.0, ltb-false room (waiting + k) p.1)
 
-module _ (n room i j : ℕ) (before : Lanes) (due : List FrameFields) where
+module _ (n room f t l : ℕ) (before : Lanes) (due : List FrameFields) where
   abbrev Entered : Bool → Left → Type 0
-  Entered malformed left = left ≡ enter_part n room i j malformed due (lane_fields before)
+  Entered malformed left = left ≡ enter_part n room f t l malformed due (lane_fields before)
 
   abbrev after : Left
-  after = (Ok (Count (length due)), lanes_with i j due (lane_fields before))
+  after = (Ok (Count (length due)), lanes_with f t l due (lane_fields before))
 
   abbrev by : Bool → Bool → Bool → ℕ → Left
   by none malformed lane waiting = tested none malformed lane (ltb room waiting) after (lane_fields before)
 
   abbrev all : ℕ
-  all = length (lane_fields before i j 0) + length due
+  all = length (lane_fields before f t l) + length due
 
   pub enter_none : (malformed : Bool) → eqb (length due) 0 ≡ true → Entered malformed (Err NothingDue, lane_fields before)
-  enter_none malformed none = sym (ap (λ t. by t malformed (is_lane n i j 0) all) none)
+  enter_none malformed none = sym (ap (λ x. by x malformed (is_lane n f t l) all) none)
 
   module _ (malformed : Bool) (some : eqb (length due) 0 ≡ false) where
     pub enter_malformed : malformed ≡ true → Entered malformed (Err Malformed, lane_fields before)
-    enter_malformed bad = sym (ap (λ t. by t malformed (is_lane n i j 0) all) some ∙ ap (λ t. by false t (is_lane n i j 0) all) bad)
+    enter_malformed bad = sym (ap (λ x. by x malformed (is_lane n f t l) all) some ∙ ap (λ x. by false x (is_lane n f t l) all) bad)
 
     -- the look at the lane decides the last two tests
     module _ (well : malformed ≡ false) (k : ℕ) (counted : k ≡ length due) where
-      looked_by : by false false (is_lane n i j 0) (length (before i j 0) + k) ≡ enter_part n room i j malformed due (lane_fields before)
+      looked_by : by false false (is_lane n f t l) (length (before f t l) + k) ≡ enter_part n room f t l malformed due (lane_fields before)
       looked_by =
-          let same : all ≡ length (before i j 0) + k = omega (arith, length-map (before i j 0) frame_fields, counted) in
-          sym (ap (λ t. by t malformed (is_lane n i j 0) all) some ∙ ap (λ t. by false t (is_lane n i j 0) all) well ∙ ap (by false false (is_lane n i j 0)) same)
+          let same : all ≡ length (before f t l) + k = omega (arith, length-map (before f t l) frame_fields, counted) in
+          sym (ap (λ x. by x malformed (is_lane n f t l) all) some ∙ ap (λ x. by false x (is_lane n f t l) all) well ∙ ap (by false false (is_lane n f t l)) same)
 
-      pub enter_refused : (e : LaneFault) → Err e ≡ room_out n room i j (length (before i j 0)) k → Entered malformed (Err (fault_refusal e), lane_fields before)
-      enter_refused e h = look_refused after (lane_fields before) (is_lane n i j 0) (ltb room (length (before i j 0) + k)) e h ∙ looked_by
+      pub enter_refused : (e : LaneFault) → Err e ≡ room_out n room f t l (length (before f t l)) k → Entered malformed (Err (fault_refusal e), lane_fields before)
+      enter_refused e h = look_refused after (lane_fields before) (is_lane n f t l) (ltb room (length (before f t l) + k)) e h ∙ looked_by
 
-      pub enter_all : Ok tt ≡ room_out n room i j (length (before i j 0)) k → (lanes : Lanes) → Sending i j before due lanes [] → Entered malformed (Ok (Count k), lane_fields lanes)
+      pub enter_all : Ok tt ≡ room_out n room f t l (length (before f t l)) k → (lanes : LanesOf FrameFields) → lanes ≡ lanes_with f t l due (lane_fields before) → Entered malformed (Ok (Count k), lanes)
       enter_all h lanes sent =
-          let full = ltb room (length (before i j 0) + k) in
-          let p = look_passed (is_lane n i j 0) full h in
-          ap (λ m. (Ok (Count m), lane_fields lanes)) counted
-          ∙ ap (λ F. (Ok (Count (length due)), F)) (sending_all i j before due lanes sent)
+          let full = ltb room (length (before f t l) + k) in
+          let p = look_passed (is_lane n f t l) full h in
+          (λ i. (Ok (Count (counted i)), sent i))
           ∙ sym (ap (λ b. tested false false b full after (lane_fields before)) p.0 ∙ ap (λ b. tested false false true b after (lane_fields before)) p.1)
           ∙ looked_by

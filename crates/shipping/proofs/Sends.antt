@@ -1,53 +1,63 @@
--- Frames on their way into one lane: what is left of them leads to where all of them lead.
-use Rattle.std.proofs.Common.{◌≡◌, ℕ, ◌+◌, ◌<◌, ◌≤◌, List, [], ◌∷◌, ◌++◌, map, length, sym, refl, ap, ◌∙◌, append_assoc, arith}
+-- Frames that enter one lane, some after others.
+use Rattle.std.proofs.Common.{◌≡◌, ℕ, ◌+◌, Bool, true, false, cond, ◌&&◌, eqb, List, [], ◌∷◌, ◌++◌, length, sym, refl, ap, ◌∙◌, append_assoc}
+use mathlib.Core.Path.{fun_ext}
+use Rattle.std.proofs.lemmas.Bool.{eqb-true}
 use Rattle.std.proofs.lemmas.List.{append-nil, length-append, length-map, map-append}
 use Rattle.frames.specs.declared.frame.Frame.{Frame}
 use Rattle.frames.specs.Fields.{FrameFields}
 use Rattle.frames.specs.Views.{frame_fields}
-use Rattle.backplane.specs.Lanes.{Lanes, with_lane}
+use Rattle.backplane.specs.Lanes.{Lanes, LanesOf, with_lane}
 use Rattle.backplane.proofs.LaneLaws.{with_here, with_with, with_same}
 use Rattle.protocol.specs.Rack.{at_lane}
 use Rattle.cards.specs.LaneViews.{lane_fields}
 use Rattle.cards.proofs.LaneViews.{fields_with}
-use Rattle.shipping.specs.Lanes.{Sending}
-use Rattle.shipping.specs.Shipping.{lanes_with}
+use Rattle.shipping.specs.Lanes.{lanes_with}
 
-module _ (i j : ℕ) (before : Lanes) (due : List FrameFields) where
-  pub sending_none : Sending i j before due before due
-  sending_none = record { leads = refl; elsewhere = sym (with_same before i j 0) }
+module _ {A : Type 0} (f t l : ℕ) where
+  abbrev chosen : Bool → (ℕ → ℕ → List A) → (ℕ → ℕ → List A) → ℕ → ℕ → List A
+  chosen b x y = cond b x y
 
-  module _ (lanes : Lanes) (left : List FrameFields) (so_far : Sending i j before due lanes left) where
-    -- the lane written twice is the lane written once
-    over : (ys : List Frame) → with_lane lanes i j 0 ys ≡ with_lane before i j 0 ys
-    over ys = ap (λ (N : Lanes). with_lane N i j 0 ys) so_far.elsewhere ∙ with_with before i j 0 (lanes i j 0) ys
+  abbrev chosen_to : Bool → (ℕ → List A) → (ℕ → List A) → ℕ → List A
+  chosen_to b x y = cond b x y
 
-    -- the next frame enters
-    pub sending_more : (lanes' : Lanes) (x : Frame) (rest : List FrameFields) → left ≡ frame_fields x ∷ rest → lanes' ≡ with_lane lanes i j 0 (lanes i j 0 ++ x ∷ []) → Sending i j before due lanes' rest
-    sending_more lanes' x rest first sent =
-        let ys = lanes i j 0 ++ x ∷ [] in
-        let here : lanes' i j 0 ≡ ys = ap (λ (N : Lanes). N i j 0) sent ∙ with_here lanes i j 0 ys in
-        record {
-          leads =
-              ap (λ zs. map frame_fields zs ++ rest) here
-              ∙ ap (λ zs. zs ++ rest) (map-append frame_fields (lanes i j 0) (x ∷ []))
-              ∙ append_assoc (map frame_fields (lanes i j 0)) (frame_fields x ∷ []) rest
-              ∙ ap (λ zs. map frame_fields (lanes i j 0) ++ zs) (sym first)
-              ∙ so_far.leads;
-          elsewhere = sent ∙ over ys ∙ ap (with_lane before i j 0) (sym here);
-        }
+  at_is : (xs : List A) (L : LanesOf A) → at_lane f t l xs L ≡ with_lane L f t l xs
+  at_is xs L = fun_ext λ f'. fun_ext λ t'. fun_ext λ l'. from f' t' l' (eqb f' f) refl
+    where
+      to : (f' t' l' : ℕ) → f' ≡ f → (b : Bool) → eqb t' t ≡ b → chosen_to b (λ l''. cond (eqb l'' l) xs (L f t l'')) (L f t') l' ≡ cond (b && eqb l' l) xs (L f' t' l')
+      to f' t' l' p true q = λ k. cond (eqb l' l) xs (L (sym p k) (sym (eqb-true t' t q) k) l')
+      to f' t' l' p false q = λ k. L (sym p k) t' l'
 
-    -- there is room for it if there was for all
-    pub sending_room : (room : ℕ) (x : FrameFields) (rest : List FrameFields) → left ≡ x ∷ rest → length (before i j 0) + length due ≤ room → length (lanes i j 0) < room
-    sending_room room x rest first fits =
-        let long = ap length so_far.leads in
-        omega (arith, long, length-append (map frame_fields (lanes i j 0)) left, length-append (map frame_fields (before i j 0)) due, length-map (lanes i j 0) frame_fields, length-map (before i j 0) frame_fields, ap length first)
+      from : (f' t' l' : ℕ) (a : Bool) → eqb f' f ≡ a → chosen a (λ t''. chosen_to (eqb t'' t) (λ l''. cond (eqb l'' l) xs (L f t l'')) (L f t'')) (L f') t' l' ≡ cond (a && (eqb t' t && eqb l' l)) xs (L f' t' l')
+      from f' t' l' true p = to f' t' l' (eqb-true f' f p) (eqb t' t) refl
+      from f' t' l' false p = refl
 
-    -- what is left enters
-    pub sending_on : (lanes' : Lanes) → Sending i j lanes left lanes' [] → Sending i j before due lanes' []
-    sending_on lanes' on = record { leads = on.leads ∙ so_far.leads; elsewhere = on.elsewhere ∙ over (lanes' i j 0) }
+  pub with_none : (L : LanesOf A) → lanes_with f t l [] L ≡ L
+  with_none L = at_is (L f t l ++ []) L ∙ ap (with_lane L f t l) (append-nil (L f t l)) ∙ with_same L f t l
 
-  pub sending_all : (lanes : Lanes) → Sending i j before due lanes [] → lane_fields lanes ≡ lanes_with i j due (lane_fields before)
-  sending_all lanes all =
-      ap lane_fields all.elsewhere
-      ∙ fields_with before i j 0 (lanes i j 0)
-      ∙ ap (λ ys. at_lane i j 0 ys (lane_fields before)) (sym (append-nil (map frame_fields (lanes i j 0))) ∙ all.leads)
+  -- some frames and then others are all of them
+  pub with_more : (xs ys : List A) (L : LanesOf A) → lanes_with f t l ys (lanes_with f t l xs L) ≡ lanes_with f t l (xs ++ ys) L
+  with_more xs ys L =
+      let zs = L f t l ++ xs in
+      let M = with_lane L f t l zs in
+      ap (lanes_with f t l ys) (at_is zs L)
+      ∙ at_is (M f t l ++ ys) M
+      ∙ ap (λ ws. with_lane M f t l (ws ++ ys)) (with_here L f t l zs)
+      ∙ with_with L f t l zs (zs ++ ys)
+      ∙ ap (with_lane L f t l) (append_assoc (L f t l) xs ys)
+      ∙ sym (at_is (L f t l ++ (xs ++ ys)) L)
+
+  pub with_there : (xs : List A) (L : LanesOf A) → lanes_with f t l xs L f t l ≡ L f t l ++ xs
+  with_there xs L = ap (λ (N : LanesOf A). N f t l) (at_is (L f t l ++ xs) L) ∙ with_here L f t l (L f t l ++ xs)
+
+module _ (f t l : ℕ) (before : Lanes) where
+  pub sent : (x : Frame) → lane_fields (with_lane before f t l (before f t l ++ x ∷ [])) ≡ lanes_with f t l (frame_fields x ∷ []) (lane_fields before)
+  sent x = fields_with before f t l (before f t l ++ x ∷ []) ∙ ap (λ ys. at_lane f t l ys (lane_fields before)) (map-append frame_fields (before f t l) (x ∷ []))
+
+  -- how many wait
+  pub sent_long : (due : List FrameFields) (after : Lanes) → lane_fields after ≡ lanes_with f t l due (lane_fields before) → length (after f t l) ≡ length (before f t l) + length due
+  sent_long due after e =
+      sym (length-map (after f t l) frame_fields)
+      ∙ ap (λ (N : LanesOf FrameFields). length (N f t l)) e
+      ∙ ap length (with_there f t l due (lane_fields before))
+      ∙ length-append (lane_fields before f t l) due
+      ∙ ap (λ n. n + length due) (length-map (before f t l) frame_fields)

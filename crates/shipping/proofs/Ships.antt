@@ -1,5 +1,5 @@
 -- A card that ships: from what became of the frames to what became of the card and the lanes.
-use Rattle.std.proofs.Common.{◌≡◌, ℕ, ◌<◌, ◌≤◌, Bool, true, false, cond, not, eqb, leb, List, [], ◌∷◌, map, length, take, Some, None, Ok, Err, Option, sym, refl, ap, ◌∙◌, arith}
+use Rattle.std.proofs.Common.{◌≡◌, ℕ, ◌<◌, ◌≤◌, Bool, true, false, cond, not, eqb, leb, List, [], ◌∷◌, map, length, Some, None, Ok, Err, Option, sym, refl, ap, ◌∙◌, arith}
 use Rattle.std.proofs.lemmas.Bool.{and_parts, and_right, cond-false, false≢true, leb-true, ne_eqb}
 use Rattle.std.specs.Option.{option_or}
 use Rattle.refusals.specs.declared.Refusal.{Refusal}
@@ -22,8 +22,9 @@ use Rattle.protocol.specs.declared.card.Role.TheVariants.{Follower, Electing, Le
 use Rattle.protocol.specs.declared.peers.PeerRow.{PeerRow}
 use Rattle.protocol.specs.declared.peers.PeerTable.{PeerTable}
 use Rattle.cards.specs.LaneViews.{lane_fields}
-use Rattle.logs.specs.Log.{log_of}
-use Rattle.shipping.specs.Shipping.{unshippable, due_checks, lanes_with, enter_part, ship_part}
+use Rattle.logs.specs.Log.{entries_of}
+use Rattle.shipping.specs.Shipping.{unshippable, due_checks, enter_part, ship_part}
+use Rattle.shipping.specs.Lanes.{lanes_with}
 use Rattle.shipping.proofs.Entering.{enter_none}
 
 -- a change goes with an answer
@@ -48,28 +49,28 @@ module _ (n room i j : ℕ) (c : Card) (lanes : LanesOf FrameFields) (log : List
 
   -- the frames by the base and by what was shipped before, and what becomes of them and of the card
   abbrev tested_by : Bool → List FrameFields → List (Bool × Refusal)
-  tested_by malformed due = due_checks n room i j malformed due lanes
+  tested_by malformed due = due_checks n room i j 0 malformed due lanes
 
   abbrev ship_by : Bool → List FrameFields → Option ℕ → Reply × (Card × LanesOf FrameFields)
-  ship_by malformed due shipped = ask (tested_by malformed due) (Count (length due)) (marked shipped, lanes_with i j due lanes) (c, lanes)
+  ship_by malformed due shipped = ask (tested_by malformed due) (Count (length due)) (marked shipped, lanes_with i j 0 due lanes) (c, lanes)
 
   abbrev ship_row : PeerRow → Reply × (Card × LanesOf FrameFields)
   ship_row row = ship_by (unshippable c row.commit row.shipped log) (shipment c row.commit row.shipped log) row.shipped
 
   module _ (row : PeerRow) (known : row ≡ row_of c.peers j) (shipped : Option ℕ) (was : row.shipped ≡ shipped) (due : List FrameFields) (same : due ≡ shipment c row.commit shipped log) where
-    shipped_by : (r : Reply) (left : LanesOf FrameFields) → (r, left) ≡ enter_part n room i j (unshippable c row.commit shipped log) due lanes → (r, (kept r (marked shipped) c, left)) ≡ ship_part n room i j log (c, lanes)
+    shipped_by : (r : Reply) (left : LanesOf FrameFields) → (r, left) ≡ enter_part n room i j 0 (unshippable c row.commit shipped log) due lanes → (r, (kept r (marked shipped) c, left)) ≡ ship_part n room i j log (c, lanes)
     shipped_by r left entered =
         ap (λ (out : Reply × LanesOf FrameFields). (out.0, (kept out.0 (marked shipped) c, out.1))) entered
-        ∙ ask_both (tested_by (unshippable c row.commit shipped log) due) (Count (length due)) (lanes_with i j due lanes) lanes (marked shipped) c
+        ∙ ask_both (tested_by (unshippable c row.commit shipped log) due) (Count (length due)) (lanes_with i j 0 due lanes) lanes (marked shipped) c
         ∙ ap (λ d. ship_by (unshippable c row.commit shipped log) d shipped) same
         ∙ sym (ap (λ o. ship_by (unshippable c row.commit o log) (shipment c row.commit o log) o) was)
         ∙ ap ship_row known
         ∙ sym (cond-false _ _ _ runs ∙ cond-false _ _ _ (ap not leads))
 
-    pub ship_refused : (r : Refusal) (left : LanesOf FrameFields) → (Err r, left) ≡ enter_part n room i j (unshippable c row.commit shipped log) due lanes → (Err r, (c, left)) ≡ ship_part n room i j log (c, lanes)
+    pub ship_refused : (r : Refusal) (left : LanesOf FrameFields) → (Err r, left) ≡ enter_part n room i j 0 (unshippable c row.commit shipped log) due lanes → (Err r, (c, left)) ≡ ship_part n room i j log (c, lanes)
     ship_refused r left entered = shipped_by (Err r) left entered
 
-    pub ship_done : (a : Answer) (left : LanesOf FrameFields) (table : PeerTable) → table ≡ mark_shipped c.peers j (shipped_after shipped) → (Ok a, left) ≡ enter_part n room i j (unshippable c row.commit shipped log) due lanes → (Ok a, (with_peers table c, left)) ≡ ship_part n room i j log (c, lanes)
+    pub ship_done : (a : Answer) (left : LanesOf FrameFields) (table : PeerTable) → table ≡ mark_shipped c.peers j (shipped_after shipped) → (Ok a, left) ≡ enter_part n room i j 0 (unshippable c row.commit shipped log) due lanes → (Ok a, (with_peers table c, left)) ≡ ship_part n room i j log (c, lanes)
     ship_done a left table stored entered = ap (λ t. (Ok a, (with_peers t c, left))) stored ∙ shipped_by (Ok a) left entered
 
 pub leading : (role : Role) → false ≡ not (sameb the_type role Leader) → is_leader role ≡ true
@@ -91,5 +92,5 @@ module _ (h : Header) (past : 4294967294 < h.2) where
   none_past [] = refl
   none_past (e ∷ xs) = ap (λ o. option_or o (cond (is_header e.header h) (Some (entry_fields e)) None)) (none_past xs) ∙ cond-false _ _ _ (other e)
 
-  pub nothing_past : (n room i j : ℕ) (lanes : Lanes) (part : List Entry) (used : ℕ) → (Err NothingDue, lane_fields lanes) ≡ enter_part n room i j false (message_frames (entry_at h (log_of part used))) (lane_fields lanes)
-  nothing_past n room i j lanes part used = enter_none n room i j lanes (message_frames (entry_at h (log_of part used))) false (ap (λ o. eqb (length (message_frames o)) 0) (none_past (take used part)))
+  pub nothing_past : (n room i j : ℕ) (lanes : Lanes) (log : List Entry) → (Err NothingDue, lane_fields lanes) ≡ enter_part n room i j 0 false (message_frames (entry_at h (entries_of log))) (lane_fields lanes)
+  nothing_past n room i j lanes log = enter_none n room i j 0 lanes (message_frames (entry_at h (entries_of log))) false (ap (λ o. eqb (length (message_frames o)) 0) (none_past log))

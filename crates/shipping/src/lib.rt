@@ -3,14 +3,14 @@
 
 ghost use Rattle.std.specs.Prelude.{◌≡◌};
 ghost use Rattle.protocol.specs.declared.answer.Answer.TheVariants.{Count};
-ghost use Rattle.logs.specs.Log.{log_of};
+ghost use Rattle.logs.specs.Log.{entries_of};
 ghost use Rattle.cards.specs.Faults.{replied};
 ghost use Rattle.cards.specs.LaneViews.{lane_fields};
 ghost use Rattle.shipping.specs.Shipping.{ship_part};
 
 use crate::diff::send_diff;
 use crate::message::send_message;
-use backplane::Backplane;
+use backplane::{Backplane, Lane};
 use cards::CardFault;
 use frames::Entry;
 use protocol::{Card, Role};
@@ -19,17 +19,19 @@ mod diff;
 mod lane;
 mod message;
 
+// Kept: a call's checks stand in it one by one, in the order of their refusals' numbers, as its definition lists them. A
+// function for each would take the order out of sight.
 // Ships what is due to a peer: first the diff from the copy of its commit row, afterwards the next message. All frames
 // enter lane 0, or none.
 pub fn ship<B: Backplane>(
     card: &mut Card,
-    part: &[Entry],
-    used: usize,
+    log: &[Entry],
     backplane: &mut B,
+    // Kept: two cards and no lane, since that it is lane 0 is the rule's, and not the caller's.
     i: u8,
     j: u8,
 ) -> Result<u32, CardFault>
-    ensures part { (replied Count result, (card.new, lane_fields (B.Backplane.lanes backplane.new))) ≡ ship_part (B.Backplane.count backplane.old) (B.Backplane.room backplane.old) i j (log_of part.now used) (card.old, lane_fields (B.Backplane.lanes backplane.old)) }
+    ensures part { (replied Count result, (card.new, lane_fields (B.Backplane.lanes backplane.new))) ≡ ship_part (B.Backplane.count backplane.old) (B.Backplane.room backplane.old) i j (entries_of log.now) (card.old, lane_fields (B.Backplane.lanes backplane.old)) }
     ensures count { B.Backplane.count backplane.new ≡ B.Backplane.count backplane.old }
     ensures room { B.Backplane.room backplane.new ≡ B.Backplane.room backplane.old }
 {
@@ -39,19 +41,22 @@ pub fn ship<B: Backplane>(
     if card.role != Role::Leader {
         return Err(CardFault::WrongRole);
     }
+    let lane = Lane {
+        from: i,
+        to: j,
+        number: 0,
+    };
     let row = card.peers.row(j);
-    let (round, leader) = card.current;
     match row.shipped {
         None => {
-            let frames = send_diff(card.current, row.commit, part, used, backplane, i, j)?;
+            let frames = send_diff(card.current, row.commit, log, backplane, lane)?;
             card.peers.mark_shipped(j, Some(0));
             Ok(frames)
         }
         Some(shipped) => {
-            let Some(count) = shipped.checked_add(1) else {
-                return Err(CardFault::NothingDue);
-            };
-            let frames = send_message((round, leader, count), part, used, backplane, i, j)?;
+            let (round, leader) = card.current;
+            let count = shipped.checked_add(1).ok_or(CardFault::NothingDue)?;
+            let frames = send_message((round, leader, count), log, backplane, lane)?;
             card.peers.mark_shipped(j, Some(count));
             Ok(frames)
         }

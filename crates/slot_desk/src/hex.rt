@@ -8,44 +8,28 @@ use std::alloc::{AllocError, Global};
 pub(crate) fn digit_value(text: u8) -> Option<u8>
     ensures { result ≡ digit_value text }
 {
-    match text {
-        b'0'..=b'9' => Some(text - b'0'),
-        b'A'..=b'F' => Some(text - b'A' + 10),
-        b'a'..=b'f' => Some(text - b'a' + 10),
-        _ => None,
-    }
+    Some((text as char).to_digit(16)? as u8)
 }
 
 // The text of the low four bits.
 pub(crate) fn digit_text(value: u8) -> char
     ensures { result ≡ digit_text (value % 16) }
 {
-    let low = value % 16;
-    if low < 10 {
-        (b'0' + low) as char
-    } else {
-        (b'A' + (low - 10)) as char
-    }
+    char::from_digit((value % 16) as u32, 16)
+        .unwrap()
+        .to_ascii_uppercase()
+}
+
+fn byte(pair: &[u8; 2]) -> Option<u8> {
+    let [high, low] = *pair;
+    Some(digit_value(high)? * 16 + digit_value(low)?)
 }
 
 // The bytes of a text of digit pairs; None where it is none.
 pub(crate) fn read_bytes(heap: Global, text: &str) -> Result<Option<Vec<u8>>, AllocError> {
-    let mut bytes = Vec::new(heap);
-    let mut high = None;
-    for digit in text.bytes() {
-        let Some(value) = digit_value(digit) else {
-            return Ok(None);
-        };
-        match high {
-            None => high = Some(value),
-            Some(first) => {
-                bytes.push(first % 16 * 16 + value % 16)?;
-                high = None;
-            }
-        }
+    let (pairs, rest) = text.as_bytes().as_chunks::<2>();
+    if !rest.is_empty() {
+        return Ok(None);
     }
-    match high {
-        None => Ok(Some(bytes)),
-        Some(_) => Ok(None),
-    }
+    pairs.iter().map(byte).collect(heap)
 }

@@ -5,20 +5,25 @@ mod hex;
 mod replies;
 mod requests;
 
-use replies::{Reply, answer};
+use replies::{Answer, serve};
 use std::io;
 use std::io::{BufRead, BufReader};
 
 fn main(rt: HostRuntime) -> io::Result<()> {
     let heap = rt.alloc();
+    // Kept: each desk's main has this loop. Each answers a line that is no text by its own reply type, and some of them on
+    // the heap; a crate for one function of three arms would be longer than the arms.
     for line in BufReader::new(heap, rt.stdin())?.lines(heap) {
         let reply = match line {
-            Ok(text) => answer(heap, text.as_str())?,
+            Ok(text) => serve(heap, text.as_str())?,
             // A line that is no text is answered like any other that cannot be read.
-            Err(e) if e.kind() == io::ErrorKind::InvalidData => Reply::NotUnderstood,
+            Err(e) if e.kind() == io::ErrorKind::InvalidData => Ok(Answer::NotUnderstood),
             Err(e) => return Err(e),
         };
-        println!(rt; "{reply}")?;
+        match reply {
+            Ok(answer) => println!(rt; "{answer}")?,
+            Err(refusal) => println!(rt; "{refusal}")?,
+        }
     }
     Ok(())
 }

@@ -2,6 +2,7 @@
 use crate::hex::read_bytes;
 use numerals::number;
 use std::alloc::{AllocError, Global};
+use std::str::SplitWhitespace;
 
 #[derive(Drop)]
 pub enum Request {
@@ -9,47 +10,33 @@ pub enum Request {
     Write([i128; 8]),
     // Bytes, and where in them a slot begins.
     Read(Vec<u8>, i128),
-    None,
 }
 
-pub(crate) fn read(heap: Global, line: &str) -> Result<Request, AllocError> {
+// None where the line asks nothing of the desk.
+pub(crate) fn read(heap: Global, line: &str) -> Result<Option<Request>, AllocError> {
     let mut words = line.split_whitespace();
     match words.next() {
-        Some("write") => {
-            let mut fields = [0i128; 8];
-            let mut count = 0usize;
-            for word in words {
-                let Some(value) = number(word) else {
-                    return Ok(Request::None);
-                };
-                if count >= 8 {
-                    return Ok(Request::None);
-                }
-                fields[count] = value;
-                count += 1;
-            }
-            if count == 8 {
-                Ok(Request::Write(fields))
-            } else {
-                Ok(Request::None)
-            }
-        }
-        Some("read") => {
-            let Some(text) = words.next() else {
-                return Ok(Request::None);
-            };
-            let start = match words.next() {
-                None => Some(0),
-                Some(word) => number(word),
-            };
-            if words.next().is_some() {
-                return Ok(Request::None);
-            }
-            match (read_bytes(heap, text)?, start) {
-                (Some(bytes), Some(start)) => Ok(Request::Read(bytes, start)),
-                _ => Ok(Request::None),
-            }
-        }
-        _ => Ok(Request::None),
+        Some("write") => Ok(read_numbers(words).map(|numbers| Request::Write(numbers))),
+        Some("read") => read_slot(heap, words),
+        _ => Ok(None),
     }
+}
+
+fn read_numbers(mut words: SplitWhitespace<'_>) -> Option<[i128; 8]> {
+    let mut numbers = [0; 8];
+    for field in &mut numbers {
+        *field = number(words.next()?)?;
+    }
+    words.next().is_none().then_some(numbers)
+}
+
+// A slot without a start begins at 0.
+fn read_slot(heap: Global, mut words: SplitWhitespace<'_>) -> Result<Option<Request>, AllocError> {
+    let (Some(text), start, None) = (words.next(), words.next(), words.next()) else {
+        return Ok(None);
+    };
+    let Some(start) = start.map_or(Some(0), |word| number(word)) else {
+        return Ok(None);
+    };
+    Ok(read_bytes(heap, text)?.map(|bytes| Request::Read(bytes, start)))
 }

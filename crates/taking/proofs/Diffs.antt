@@ -1,32 +1,31 @@
 -- An opened diff in front of its lane, and what take makes of it.
-use Rattle.std.proofs.Common.{◌≡◌, ℕ, ◌+◌, ◌-◌, ◌≤◌, eqb, ltb, List, map, length, take, drop, Ok, Err, sym, ap, ◌∙◌, arith}
+use Rattle.std.proofs.Common.{◌≡◌, ℕ, ◌+◌, ◌-◌, ◌≤◌, eqb, ltb, List, map, length, take, drop, Ok, sym, ap, ◌∙◌, arith}
 use Rattle.std.proofs.lemmas.Bool.{eqb-true, and_parts, ltb-false, cond-true, cond-false}
 use Rattle.std.proofs.lemmas.List.{length-append, length-map}
 use Rattle.std.proofs.lemmas.Bool.Decides.{nat_tests}
 use Rattle.backplane.specs.Lanes.{Lanes, with_lane}
 use Rattle.frames.specs.Fields.{FrameFields, EntryFields, fields_of}
 use Rattle.frames.specs.declared.entry.Entry.{Entry}
-use Rattle.protocol.specs.Taking.{front, front_size, is_message, body_of, kept_up_to, entry_of, installed_log, log_after, entered_by, taken_by}
+use Rattle.frames.specs.Carried.{entry_of}
+use Rattle.protocol.specs.Taking.{front, front_size, is_message, body_of, kept_up_to, installed_log, log_after, entered_by, taken_by}
 use Rattle.protocol.specs.declared.answer.Answer.TheVariants.{Took}
 use Rattle.protocol.specs.declared.answer.Intake.TheVariants.{PassedOver, Appended, Installed}
 use Rattle.protocol.specs.declared.card.Card.{Card}
-use Rattle.cards.specs.Faults.{card_refusal}
 use Rattle.cards.specs.LaneViews.{lane_fields}
-use Rattle.cards.specs.declared.fault.CardFault.{CardFault}
 use Rattle.logs.specs.Log.{log_of}
 use Rattle.logs.proofs.Cuts.{kept_at_most}
 use Rattle.taking.specs.Openings.{InFront}
 use Rattle.taking.specs.Parts.{take_front}
 use Rattle.taking.specs.Verdicts.{verdict_on}
 use Rattle.taking.specs.declared.diff.OpenedDiff.{OpenedDiff}
-use Rattle.taking.specs.declared.verdict.Verdict.TheVariants.{Pass, Enter, Back}
-use Rattle.taking.proofs.Turns.{diff_judged, take_passes, take_enters, take_goes_back, lanes_gone}
+use Rattle.taking.specs.declared.verdict.Verdict.TheVariants.{Pass, Enter}
+use Rattle.taking.proofs.Turns.{diff_judged, take_passes, take_enters, lanes_gone}
 
 module _ (n : ℕ) (L : Lanes) (d : OpenedDiff) (stands : InFront n L d) where
   abbrev lane : List FrameFields
-  lane = lane_fields L d.from d.to 0
+  lane = lane_fields L d.lane.from d.lane.to d.lane.number
 
-  all_frames : d.entries + 1 ≡ front_size (lane_fields L d.from d.to 0)
+  all_frames : d.entries + 1 ≡ front_size (lane_fields L d.lane.from d.lane.to d.lane.number)
   all_frames = ap (λ t. t.entries + 1) stands.token ∙ sym (cond-true _ _ _ stands.diff)
 
   module _ (c : Card) (part : List Entry) (used stay : ℕ) (counted : stay ≡ length (kept_up_to d.base (log_of part used))) where
@@ -57,22 +56,19 @@ module _ (n : ℕ) (L : Lanes) (d : OpenedDiff) (stands : InFront n L d) where
     seen : verdict_on c (fields_of 2 (d.epoch.0, d.epoch.1, 0) (0, 0, 0, 0)) (ltb (length part - stay) d.entries) ≡ verdict_on c (front lane) (ltb (length part) (length (log_after lane (log_of part used))))
     seen = diff_judged c (front lane) _ _ no_room d.epoch stands.message (ap (λ t. t.epoch) stands.token)
 
-    pub diff_back : (fault : CardFault) → Back fault ≡ verdict_on c (fields_of 2 (d.epoch.0, d.epoch.1, 0) (0, 0, 0, 0)) (ltb (length part - stay) d.entries) → (Err (card_refusal fault), (c, log_of part used, lane_fields L)) ≡ take_front (length part) d.to d.from (c, log_of part used, lane_fields L)
-    diff_back fault e = take_goes_back (length part) d.to d.from c (log_of part used) (lane_fields L) fault (e ∙ seen)
-
-    pub diff_room : Enter ≡ verdict_on c (fields_of 2 (d.epoch.0, d.epoch.1, 0) (0, 0, 0, 0)) (ltb (length part - stay) d.entries) → length (kept_up_to d.base (log_of part used)) + d.entries ≤ length part
+    pub diff_room : Ok Enter ≡ verdict_on c (fields_of 2 (d.epoch.0, d.epoch.1, 0) (0, 0, 0, 0)) (ltb (length part - stay) d.entries) → length (kept_up_to d.base (log_of part used)) + d.entries ≤ length part
     diff_room e =
-        let fits = ltb-false (length part) (length (log_after lane (log_of part used))) (take_enters (length part) d.to d.from c (log_of part used) (lane_fields L) (e ∙ seen)).0 in
+        let fits = ltb-false (length part) (length (log_after lane (log_of part used))) (take_enters (length part) d.lane.to d.lane.from d.lane.number c (log_of part used) (lane_fields L) (e ∙ seen)).0 in
         omega (arith, fits, log_long, counted)
 
-    module _ (L' : Lanes) (dropped : L' ≡ with_lane L d.from d.to 0 (drop (d.entries + 1) (L d.from d.to 0))) where
-      pub diff_passed : Pass ≡ verdict_on c (fields_of 2 (d.epoch.0, d.epoch.1, 0) (0, 0, 0, 0)) (ltb (length part - stay) d.entries) → (Ok (Took PassedOver), (c, log_of part used, lane_fields L')) ≡ take_front (length part) d.to d.from (c, log_of part used, lane_fields L)
+    module _ (L' : Lanes) (dropped : L' ≡ with_lane L d.lane.from d.lane.to d.lane.number (drop (d.entries + 1) (L d.lane.from d.lane.to d.lane.number))) where
+      pub diff_passed : Ok Pass ≡ verdict_on c (fields_of 2 (d.epoch.0, d.epoch.1, 0) (0, 0, 0, 0)) (ltb (length part - stay) d.entries) → (Ok (Took PassedOver), (c, log_of part used, lane_fields L')) ≡ take_front (length part) d.lane.to d.lane.from d.lane.number (c, log_of part used, lane_fields L)
       diff_passed e =
-          (λ k. (Ok (Took PassedOver), (c, log_of part used, lanes_gone d.to d.from (d.entries + 1) L L' dropped all_frames k)))
-          ∙ take_passes (length part) d.to d.from c (log_of part used) (lane_fields L) (e ∙ seen)
+          (λ k. (Ok (Took PassedOver), (c, log_of part used, lanes_gone d.lane.to d.lane.from d.lane.number (d.entries + 1) L L' dropped all_frames k)))
+          ∙ take_passes (length part) d.lane.to d.lane.from d.lane.number c (log_of part used) (lane_fields L) (e ∙ seen)
 
-      pub diff_entered : (c' : Card) (log' : List EntryFields) → c' ≡ entered_by d.epoch c → log' ≡ installed_log d.base (map entry_of (take d.entries (drop 1 (lane_fields L d.from d.to 0)))) (log_of part used) → Enter ≡ verdict_on c (fields_of 2 (d.epoch.0, d.epoch.1, 0) (0, 0, 0, 0)) (ltb (length part - stay) d.entries) → (Ok (Took Installed), (c', log', lane_fields L')) ≡ take_front (length part) d.to d.from (c, log_of part used, lane_fields L)
+      pub diff_entered : (c' : Card) (log' : List EntryFields) → c' ≡ entered_by d.epoch c → log' ≡ installed_log d.base (map entry_of (take d.entries (drop 1 (lane_fields L d.lane.from d.lane.to d.lane.number)))) (log_of part used) → Ok Enter ≡ verdict_on c (fields_of 2 (d.epoch.0, d.epoch.1, 0) (0, 0, 0, 0)) (ltb (length part - stay) d.entries) → (Ok (Took Installed), (c', log', lane_fields L')) ≡ take_front (length part) d.lane.to d.lane.from d.lane.number (c, log_of part used, lane_fields L)
       diff_entered c' log' entered installed e =
           let header : entered_by d.epoch c ≡ taken_by c (front lane) = ap (λ t. entered_by t.epoch c) stands.token ∙ sym (cond-false _ _ _ stands.message) in
-          (λ k. (Ok (Took (sym (cond-false (is_message (front lane)) Appended Installed stands.message) k)), ((entered ∙ header) k, (installed ∙ log_is) k, lanes_gone d.to d.from (d.entries + 1) L L' dropped all_frames k)))
-          ∙ (take_enters (length part) d.to d.from c (log_of part used) (lane_fields L) (e ∙ seen)).1
+          (λ k. (Ok (Took (sym (cond-false (is_message (front lane)) Appended Installed stands.message) k)), ((entered ∙ header) k, (installed ∙ log_is) k, lanes_gone d.lane.to d.lane.from d.lane.number (d.entries + 1) L L' dropped all_frames k)))
+          ∙ (take_enters (length part) d.lane.to d.lane.from d.lane.number c (log_of part used) (lane_fields L) (e ∙ seen)).1

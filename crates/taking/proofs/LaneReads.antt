@@ -4,47 +4,40 @@ use Rattle.std.specs.Option.{ok_or}
 use Rattle.std.specs.List.{slice_get}
 use Rattle.std.proofs.lemmas.Option.{slice_get-get_or, slice_get_past}
 use Rattle.std.proofs.lemmas.List.{drop_more, drop_all}
-use Rattle.std.proofs.lemmas.Bool.{cases_lt, cond-true}
+use Rattle.std.proofs.lemmas.Bool.{cases_lt}
 use Rattle.backplane.specs.declared.fault.LaneFault.{LaneFault}
 use Rattle.backplane.specs.declared.fault.LaneFault.TheVariants.{NothingThere, NoSuchLane}
 use Rattle.backplane.specs.Blank.{blank}
 use Rattle.backplane.specs.Lanes.{Lanes, is_lane, frame_out}
 use Rattle.frames.specs.declared.frame.Frame.{Frame}
 
-module _ (n : ℕ) (L : Lanes) (f t p : ℕ) (is : is_lane n f t 0 ≡ true) (there : p < length (L f t 0)) where
-  pub frame_found : (d : Frame) → frame_out n L f t 0 p ≡ Ok (get_or (L f t 0) p d)
-  frame_found d = cond-true _ _ _ is ∙ ap (λ o. ok_or o NothingThere) (slice_get-get_or (L f t 0) p d there)
-
-  pub frame_is : (x : Frame) → Ok x ≡ frame_out n L f t 0 p → x ≡ get_or (L f t 0) p x
-  frame_is x e = let same = e ∙ frame_found x in cc
-
 -- what a look at a position says of the frames from there on
-module _ (n : ℕ) (L : Lanes) (f t p : ℕ) where
+module _ (n : ℕ) (L : Lanes) (f t l p : ℕ) where
   ok_not : (x : Frame) (e : LaneFault) → ◌≡◌ {A = Result Frame LaneFault} (Ok x) (Err e) → ⊥
   ok_not x e h = let z : ◌≡◌ {A = ℕ} 0 1 = cc in omega arith
 
-  pub frame_first : (x : Frame) → Ok x ≡ frame_out n L f t 0 p → (is_lane n f t 0 ≡ true) × (drop p (L f t 0) ≡ x ∷ drop (p + 1) (L f t 0))
-  frame_first x e = go (is_lane n f t 0) refl e
+  pub frame_first : (x : Frame) → Ok x ≡ frame_out n L f t l p → (is_lane n f t l ≡ true) × (drop p (L f t l) ≡ x ∷ drop (p + 1) (L f t l))
+  frame_first x e = go (is_lane n f t l) refl e
     where
-      go : (b : Bool) → is_lane n f t 0 ≡ b → ◌≡◌ {A = Result Frame LaneFault} (Ok x) (cond b (ok_or (slice_get (L f t 0) p) NothingThere) (Err NoSuchLane)) → (is_lane n f t 0 ≡ true) × (drop p (L f t 0) ≡ x ∷ drop (p + 1) (L f t 0))
-      go true is e = (is, ⊎_elim within past (cases_lt p (length (L f t 0))))
+      go : (b : Bool) → is_lane n f t l ≡ b → ◌≡◌ {A = Result Frame LaneFault} (Ok x) (cond b (ok_or (slice_get (L f t l) p) NothingThere) (Err NoSuchLane)) → (is_lane n f t l ≡ true) × (drop p (L f t l) ≡ x ∷ drop (p + 1) (L f t l))
+      go true is e = (is, ⊎_elim within past (cases_lt p (length (L f t l))))
         where
-          within : p < length (L f t 0) → drop p (L f t 0) ≡ x ∷ drop (p + 1) (L f t 0)
+          within : p < length (L f t l) → drop p (L f t l) ≡ x ∷ drop (p + 1) (L f t l)
           within h =
-              let same = e ∙ ap (λ o. ok_or o NothingThere) (slice_get-get_or (L f t 0) p x h) in
-              let here : get_or (L f t 0) p x ≡ x = cc in
-              drop_more (L f t 0) p x h ∙ ap (λ y. y ∷ drop (p + 1) (L f t 0)) here
+              let same = e ∙ ap (λ o. ok_or o NothingThere) (slice_get-get_or (L f t l) p x h) in
+              let here : get_or (L f t l) p x ≡ x = cc in
+              drop_more (L f t l) p x h ∙ ap (λ y. y ∷ drop (p + 1) (L f t l)) here
 
-          past : length (L f t 0) ≤ p → drop p (L f t 0) ≡ x ∷ drop (p + 1) (L f t 0)
-          past h = absurd (ok_not x NothingThere (e ∙ ap (λ o. ok_or o NothingThere) (slice_get_past (L f t 0) p h)))
+          past : length (L f t l) ≤ p → drop p (L f t l) ≡ x ∷ drop (p + 1) (L f t l)
+          past h = absurd (ok_not x NothingThere (e ∙ ap (λ o. ok_or o NothingThere) (slice_get_past (L f t l) p h)))
       go false isnt e = absurd (ok_not x NoSuchLane e)
 
-  pub frame_none : (e : LaneFault) → (is_lane n f t 0 ≡ false → L f t 0 ≡ []) → Err e ≡ frame_out n L f t 0 p → drop p (L f t 0) ≡ []
-  frame_none fault nowhere e = go (is_lane n f t 0) refl e
+  pub frame_none : (e : LaneFault) → (is_lane n f t l ≡ false → L f t l ≡ []) → Err e ≡ frame_out n L f t l p → drop p (L f t l) ≡ []
+  frame_none fault nowhere e = go (is_lane n f t l) refl e
     where
-      go : (b : Bool) → is_lane n f t 0 ≡ b → ◌≡◌ {A = Result Frame LaneFault} (Err fault) (cond b (ok_or (slice_get (L f t 0) p) NothingThere) (Err NoSuchLane)) → drop p (L f t 0) ≡ []
-      go true is e = ⊎_elim within (drop_all p (L f t 0)) (cases_lt p (length (L f t 0)))
+      go : (b : Bool) → is_lane n f t l ≡ b → ◌≡◌ {A = Result Frame LaneFault} (Err fault) (cond b (ok_or (slice_get (L f t l) p) NothingThere) (Err NoSuchLane)) → drop p (L f t l) ≡ []
+      go true is e = ⊎_elim within (drop_all p (L f t l)) (cases_lt p (length (L f t l)))
         where
-          within : p < length (L f t 0) → drop p (L f t 0) ≡ []
-          within h = absurd (ok_not (get_or (L f t 0) p blank) fault (sym (e ∙ ap (λ o. ok_or o NothingThere) (slice_get-get_or (L f t 0) p blank h))))
+          within : p < length (L f t l) → drop p (L f t l) ≡ []
+          within h = absurd (ok_not (get_or (L f t l) p blank) fault (sym (e ∙ ap (λ o. ok_or o NothingThere) (slice_get-get_or (L f t l) p blank h))))
       go false isnt e = ap (drop p) (nowhere isnt) ∙ drop_all p [] (omega arith)

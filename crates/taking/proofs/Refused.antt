@@ -34,12 +34,12 @@ shut_by true false false before rest r e = let same : r ≡ Malformed = cc in λ
 shut_by false empty made before rest r e = let same : r ≡ NoSuchCard = cc in λ k. (Err (same k), before)
 
 module _ (n places i j : ℕ) (c : Card) (log : List EntryFields) (lanes : LanesOf FrameFields) (runs : c.stopped ≡ false) where
-  checked : checked_by false (is_lane n j i 0) (eqb (length (lanes j i 0)) 0) (formed j (lanes j i 0)) (c, log, lanes) (take_front places i j (c, log, lanes)) ≡ take_part n places i j (c, log, lanes)
-  checked = sym (ap (λ b. checked_by b (is_lane n j i 0) (eqb (length (lanes j i 0)) 0) (formed j (lanes j i 0)) (c, log, lanes) (take_front places i j (c, log, lanes))) runs)
+  checked : checked_by false (is_lane n j i 0) (eqb (length (lanes j i 0)) 0) (formed j (lanes j i 0)) (c, log, lanes) (take_front places i j 0 (c, log, lanes)) ≡ take_part n places i j (c, log, lanes)
+  checked = sym (ap (λ b. checked_by b (is_lane n j i 0) (eqb (length (lanes j i 0)) 0) (formed j (lanes j i 0)) (c, log, lanes) (take_front places i j 0 (c, log, lanes))) runs)
 
   -- what is opened goes on to the checks of the front
-  pub take_goes_on : unopened (is_lane n j i 0) j (lanes j i 0) ≡ None → take_front places i j (c, log, lanes) ≡ take_part n places i j (c, log, lanes)
-  take_goes_on e = open_by (is_lane n j i 0) (eqb (length (lanes j i 0)) 0) (formed j (lanes j i 0)) (c, log, lanes) (take_front places i j (c, log, lanes)) e ∙ checked
+  pub take_goes_on : unopened (is_lane n j i 0) j (lanes j i 0) ≡ None → take_front places i j 0 (c, log, lanes) ≡ take_part n places i j (c, log, lanes)
+  take_goes_on e = open_by (is_lane n j i 0) (eqb (length (lanes j i 0)) 0) (formed j (lanes j i 0)) (c, log, lanes) (take_front places i j 0 (c, log, lanes)) e ∙ checked
 
   pub take_refused : (r : Refusal) → unopened (is_lane n j i 0) j (lanes j i 0) ≡ Some r → (Err r, (c, log, lanes)) ≡ take_part n places i j (c, log, lanes)
-  take_refused r e = shut_by (is_lane n j i 0) (eqb (length (lanes j i 0)) 0) (formed j (lanes j i 0)) (c, log, lanes) (take_front places i j (c, log, lanes)) r e ∙ checked
+  take_refused r e = shut_by (is_lane n j i 0) (eqb (length (lanes j i 0)) 0) (formed j (lanes j i 0)) (c, log, lanes) (take_front places i j 0 (c, log, lanes)) r e ∙ checked

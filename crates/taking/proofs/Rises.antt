@@ -50,12 +50,6 @@ module _ (low high : Header) where
         ∙ ap (λ b. b && true) (ne_eqb 0 (suc (n - (i + 1))) (λ e. omega arith))
         )
 
-  pub whole_start : (n : ℕ) (frames : List FrameFields) → whole_behind low high (n - 0) frames ≡ whole_behind low high n frames
-  whole_start n frames = let all : n - 0 ≡ n = omega arith in ap (λ m. whole_behind low high m frames) all
-
-  pub whole_end : (n i : ℕ) (frames : List FrameFields) → n ≤ i → whole_behind low high (n - i) frames ≡ true
-  whole_end n i frames past = let none : n - i ≡ 0 = omega arith in ap (λ m. whole_behind low high m frames) none
-
 -- a whole diff's frames are there, and each is an entry
 rising_kind : (low high : Header) (xs : List FrameFields) (i : ℕ) (d : FrameFields) → rising_between low high xs ≡ true → i < length xs → (get_or xs i d).kind ≡ 3
 rising_kind low high [] i d e h = absurd (omega arith)

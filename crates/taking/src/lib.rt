@@ -1,7 +1,6 @@
 // take: the first message or whole diff that waits from a peer enters the card's log, is passed over, or is refused.
 #![tactic(auto)]
 
-mod carried;
 mod diff;
 mod front;
 mod installing;

@@ -9,37 +9,42 @@ use frames::Kind;
 use marks::Header;
 use protocol::Card;
 
-#[derive(Clone, Copy)]
+#[derive(Clone, Copy, PartialEq, Eq, Debug)]
 pub(crate) enum Verdict {
     Pass,
     Enter,
-    Back(CardFault),
 }
 
-fn unless_full(full: bool) -> Verdict
+fn unless_full(full: bool) -> Result<Verdict, CardFault>
     ensures { result ≡ unless_full full }
 {
     if full {
-        Verdict::Back(CardFault::LogFull)
+        Err(CardFault::LogFull)
     } else {
-        Verdict::Enter
+        Ok(Verdict::Enter)
     }
 }
 
-// `full` says that the log has no room for what would enter.
-pub(crate) fn decide(card: &Card, kind: Kind, header: Header, full: bool) -> Verdict
+// `full` says that the log has no room for what would enter. What is to stay where it waits is a fault.
+pub(crate) fn decide(
+    card: &Card,
+    kind: Kind,
+    header: Header,
+    full: bool,
+) -> Result<Verdict, CardFault>
     requires { (kind_number kind == 1 || kind_number kind == 2) ≡ true }
     ensures { result ≡ verdict_on card.now (fields_of (kind_number kind) header (0, 0, 0, 0)) full }
 {
     let (round, leader, count) = header;
     let epoch = (round, leader);
+    // Kept: one match over kinds with guards on epoch and count, for messages and diffs, so that the rule stands in one place.
     match kind {
-        _ if epoch < card.newest => Verdict::Pass,
+        _ if epoch < card.newest => Ok(Verdict::Pass),
         Kind::Message
             if epoch == card.current
                 && epoch == card.newest
-                && count as u64 == card.accepted.2 as u64 + 1 => unless_full(full),
+                && card.accepted.2.checked_add(1) == Some(count) => unless_full(full),
         Kind::DiffHead if epoch != card.current => unless_full(full),
-        _ => Verdict::Back(CardFault::OutOfTurn),
+        _ => Err(CardFault::OutOfTurn),
     }
 }

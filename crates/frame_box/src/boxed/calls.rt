@@ -4,7 +4,7 @@ ghost use Rattle.backplane.specs.Lanes.{empty_lanes};
 ghost use Rattle.frame_box.specs.Box.{box_lanes, box_within, box_nowhere};
 
 use crate::boxed::{FrameBox, SLOTS};
-use backplane::{Backplane, LaneFault};
+use backplane::{Backplane, Lane, LaneFault};
 use frames::{Frame, Kind};
 use ring_table::{RingTable, Shape};
 
@@ -29,6 +29,7 @@ impl FrameBox {
     }
 }
 
+// Kept: two impls, this and that of the rings: a generic `Slotted<S: SlotStore>` would be wrapped here for `new` and the 3 cards of every box, and again there for `over` and `slot_start`, and each wrapper calls its six methods as this one calls the table's.
 impl Backplane for FrameBox {
     ghost count = { λ s. 3 };
 
@@ -48,22 +49,25 @@ impl Backplane for FrameBox {
         self.table.capacity()
     }
 
-    fn waiting(&self, from: u8, to: u8, lane: u8) -> Result<usize, LaneFault> {
-        self.table.waiting(from, to, lane)
+    #[tactic(auto, using(crate::proofs::Box::box_waiting))]
+    fn waiting(&self, lane: Lane) -> Result<usize, LaneFault> {
+        self.table.waiting(lane)
     }
 
-    fn frame_at(&self, from: u8, to: u8, lane: u8, position: usize) -> Result<Frame, LaneFault> {
-        let slot = self.table.slot_at(from, to, lane, position)?;
+    fn frame_at(&self, lane: Lane, position: usize) -> Result<Frame, LaneFault> {
+        let slot = self.table.slot_at(lane, position)?;
         Ok(self.frames[slot])
     }
 
-    fn send(&mut self, from: u8, to: u8, lane: u8, frame: Frame) -> Result<(), LaneFault> {
-        let slot = self.table.enter(from, to, lane)?;
+    #[tactic(auto, using(crate::proofs::Box::box_send, crate::proofs::Box::box_refuse))]
+    fn send(&mut self, lane: Lane, frame: Frame) -> Result<(), LaneFault> {
+        let slot = self.table.enter(lane)?;
         self.frames[slot] = frame;
         Ok(())
     }
 
-    fn drop_first(&mut self, from: u8, to: u8, lane: u8, k: usize) -> Result<(), LaneFault> {
-        self.table.leave(from, to, lane, k)
+    #[tactic(auto, using(crate::proofs::Box::box_drop))]
+    fn drop_first(&mut self, lane: Lane, k: usize) -> Result<(), LaneFault> {
+        self.table.leave(lane, k)
     }
 }

@@ -1,9 +1,10 @@
-use Rattle.std.proofs.Common.{◌≡◌, ◌≤◌, min, drop}
-use Rattle.numerals.specs.Decimal.{all_digits, value_after}
+use Rattle.std.proofs.Common.{◌≡◌, ◌≤◌, min, true, take}
+use Rattle.std.specs.List.{list_all}
+use Rattle.numerals.specs.Decimal.{is_digit, value_after}
 use Rattle.numerals.proofs.magnitude.Given as goal
 
 abbrev pub invariant-loop-digit : goal.invariant-loop-digit
 invariant-loop-digit l =
     (l.value ≤ 18446744073709551616)
-    × (all_digits (drop l.digit-index l.digits) ≡ all_digits l.digits)
-    × (min 18446744073709551616 (value_after l.value (drop l.digit-index l.digits)) ≡ min 18446744073709551616 (value_after 0 l.digits))
+    × (list_all is_digit (take l.digit-index l.digits) ≡ true)
+    × (l.value ≡ min 18446744073709551616 (value_after 0 (take l.digit-index l.digits)))

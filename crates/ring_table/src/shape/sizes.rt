@@ -10,8 +10,8 @@ impl Shape {
     pub fn of(cards: u8, room: usize) -> Result<Shape, Refusal>
         ensures { ShapeOf cards room result }
     {
-        match cards {
-            3 | 5 | 7 if 1 <= room && room <= 2048 => Ok(Shape {
+        match (cards, room) {
+            (3 | 5 | 7, 1..=2048) => Ok(Shape {
                 cards,
                 room: room as u16,
             }),
@@ -19,6 +19,7 @@ impl Shape {
         }
     }
 
+    #[tactic(auto, using(crate::proofs::Bounds::slots_most))]
     pub fn slots(self) -> usize
         ensures value { result ≡ slots_of self.cards self.room }
         ensures most { result ≤ 401408 }

@@ -9,7 +9,7 @@ ghost use Rattle.rings.specs.Rings.{rings_bytes, rings_lanes, rings_within, ring
 
 use crate::ring::Rings;
 use crate::store::Store;
-use backplane::{Backplane, LaneFault};
+use backplane::{Backplane, Lane, LaneFault};
 use frames::Frame;
 use frames::slot::SLOT;
 use refusals::Refusal;
@@ -29,8 +29,8 @@ pub fn shape_for(cards: u8, room: usize, len: usize) -> Result<Shape, Refusal>
 impl<'a> Rings<'a> {
     // Empty rings over the caller's bytes; where the buffer has not the shape's length, a backplane without cards.
     pub fn over(bytes: &'a mut [u8], shape: Shape) -> Rings<'a>
-        ensures cards { result.table.cards ≡ (if nat_eq (length bytes.old) (slots_of shape.cards shape.room * 48) then shape.cards else 0) }
-        ensures room { result.table.room ≡ shape.room }
+        ensures cards { result.table.shape.cards ≡ (if nat_eq (length bytes.old) (slots_of shape.cards shape.room * 48) then shape.cards else 0) }
+        ensures room { result.table.shape.room ≡ shape.room }
         ensures lanes { rings_lanes result ≡ empty_lanes }
         ensures bytes { rings_bytes result ≡ bytes.old }
     {
@@ -48,25 +48,20 @@ impl<'a> Rings<'a> {
     }
 
     // Where the slot of a waiting frame begins. Which slot that is, is free; the bytes that stand there are not.
-    pub fn slot_start(
-        &self,
-        from: u8,
-        to: u8,
-        lane: u8,
-        position: usize,
-    ) -> Result<usize, LaneFault>
-        ensures value { result ≡ held (λ j. j * 48) (frame_out self.now.table.cards (slots self.now.table) from to lane position) }
-        ensures bytes { SlotAt self.now.table.cards (rings_lanes self.now) (rings_bytes self.now) from to lane position result }
+    pub fn slot_start(&self, lane: Lane, position: usize) -> Result<usize, LaneFault>
+        ensures value { result ≡ held (λ j. j * 48) (frame_out self.now.table.shape.cards (slots self.now.table) lane.from lane.to lane.number position) }
+        ensures bytes { SlotAt self.now.table.shape.cards (rings_lanes self.now) (rings_bytes self.now) lane.from lane.to lane.number position result }
     {
-        let slot = self.table.slot_at(from, to, lane, position)?;
+        let slot = self.table.slot_at(lane, position)?;
         Ok(slot * SLOT)
     }
 }
 
+// Kept: two impls, this and that of the frame box: a generic `Slotted<S: SlotStore>` would be wrapped here for `over` and `slot_start`, and each wrapper calls its six methods as this one calls the table's.
 impl Backplane for Rings<'_> {
-    ghost count = { λ s. s.table.cards };
+    ghost count = { λ s. s.table.shape.cards };
 
-    ghost room = { λ s. s.table.room };
+    ghost room = { λ s. s.table.shape.room };
 
     ghost lanes = { rings_lanes };
 
@@ -82,25 +77,24 @@ impl Backplane for Rings<'_> {
         self.table.capacity()
     }
 
-    fn waiting(&self, from: u8, to: u8, lane: u8) -> Result<usize, LaneFault> {
-        self.table.waiting(from, to, lane)
+    fn waiting(&self, lane: Lane) -> Result<usize, LaneFault> {
+        self.table.waiting(lane)
     }
 
-    fn frame_at(&self, from: u8, to: u8, lane: u8, position: usize) -> Result<Frame, LaneFault> {
-        let slot = self.table.slot_at(from, to, lane, position)?;
-        match self.store.read(slot) {
-            Ok(frame) => Ok(frame),
-            Err(_) => unreachable(),
-        }
+    fn frame_at(&self, lane: Lane, position: usize) -> Result<Frame, LaneFault> {
+        let slot = self.table.slot_at(lane, position)?;
+        Ok(self.store.read(slot).unwrap())
     }
 
-    fn send(&mut self, from: u8, to: u8, lane: u8, frame: Frame) -> Result<(), LaneFault> {
-        let slot = self.table.enter(from, to, lane)?;
+    #[tactic(auto, using(crate::proofs::Frames::sent_lanes, crate::proofs::Frames::kept_frames, crate::proofs::Frames::kept_lanes, crate::proofs::Frames::long_kept))]
+    fn send(&mut self, lane: Lane, frame: Frame) -> Result<(), LaneFault> {
+        let slot = self.table.enter(lane)?;
         self.store.write(slot, frame);
         Ok(())
     }
 
-    fn drop_first(&mut self, from: u8, to: u8, lane: u8, k: usize) -> Result<(), LaneFault> {
-        self.table.leave(from, to, lane, k)
+    #[tactic(auto, using(crate::proofs::Frames::left_frames, crate::proofs::Frames::left_lanes, crate::proofs::Frames::long_kept))]
+    fn drop_first(&mut self, lane: Lane, k: usize) -> Result<(), LaneFault> {
+        self.table.leave(lane, k)
     }
 }

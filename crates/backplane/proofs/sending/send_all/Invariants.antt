@@ -6,8 +6,8 @@ abbrev pub invariant-loop-frame : goal.invariant-loop-frame
 invariant-loop-frame g l =
     let b = g.B.Backplane in
     let L = b.lanes l.initial.backplane in
-    (is_lane (b.count l.initial.backplane) l.from l.to l.lane ≡ true)
-    × (length (L l.from l.to l.lane) + length l.frames ≤ b.room l.initial.backplane)
+    (is_lane (b.count l.initial.backplane) l.lane.from l.lane.to l.lane.number ≡ true)
+    × (length (L l.lane.from l.lane.to l.lane.number) + length l.frames ≤ b.room l.initial.backplane)
     × (b.count l.backplane ≡ b.count l.initial.backplane)
     × (b.room l.backplane ≡ b.room l.initial.backplane)
-    × (b.lanes l.backplane ≡ with_lane L l.from l.to l.lane (L l.from l.to l.lane ++ take l.frame-index l.frames))
+    × (b.lanes l.backplane ≡ with_lane L l.lane.from l.lane.to l.lane.number (L l.lane.from l.lane.to l.lane.number ++ take l.frame-index l.frames))

@@ -1,5 +1,5 @@
 use Rattle.board.proofs.Held.{held_through_runs}
 use Rattle.board.proofs.runs.lone_board.Goals as goal
 
-pub returns : goal.returns
-returns c = record { value = c.lone.ensures; law = held_through_runs }
+pub returns-clause-law : goal.returns-clause-law
+returns-clause-law c = held_through_runs

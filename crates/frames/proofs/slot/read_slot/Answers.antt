@@ -16,10 +16,10 @@ returns-then-not-slot_fits c = record {
   slots = slots_and_frames;
 }
 
-pub returns-in_err-values : goal.returns-in_err-values
-returns-in_err-values c =
+pub returns-in_err-read_fields : goal.returns-in_err-read_fields
+returns-in_err-read_fields c =
     let p = err_from_is_err_and c.from_residual.result c.from_residual.ensures.1 in
-    let why = c.in_err-values.ensures in
+    let why = c.in_err-read_fields.ensures in
     let size : c.args.start + 48 - c.args.start ≡ 48 = omega arith in
     record {
       value = p.1 ∙ ap Err (p.2 ∙ why.0) ∙ sym (read_refused (take (c.args.start + 48 - c.args.start) (drop c.args.start c.args.bytes.now)) why.1) ∙ inside c.args.bytes.now c.args.start _ c.if-not-slot_fits.ensures size;
@@ -30,8 +30,8 @@ pub returns : goal.returns
 returns c =
     let size : c.args.start + 48 - c.args.start ≡ 48 = omega arith in
     let part = take (c.args.start + 48 - c.args.start) (drop c.args.start c.args.bytes.now) in
-    let found : (list_slot c.in_ok-values.values ≡ part) × Fits field_widths c.in_ok-values.values = c.in_ok-values.ensures in
+    let found : (list_slot c.in_ok-read_fields.field-0 ≡ part) × Fits field_widths c.in_ok-read_fields.field-0 = c.in_ok-read_fields.ensures in
     record {
-      value = c.new.ensures ∙ sym (read_fields part c.in_ok-values.values found.0 found.1) ∙ inside c.args.bytes.now c.args.start _ c.if-not-slot_fits.ensures size;
+      value = c.from_fields.ensures ∙ sym (read_fields part c.in_ok-read_fields.field-0 found.0 found.1) ∙ inside c.args.bytes.now c.args.start _ c.if-not-slot_fits.ensures size;
       slots = slots_and_frames;
     }

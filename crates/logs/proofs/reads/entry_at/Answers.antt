@@ -1,20 +1,14 @@
-use Rattle.std.proofs.Common.{map, length, sym, ap, ◌∙◌, arith}
-use Rattle.std.proofs.lemmas.List.{take_all}
+use Rattle.std.proofs.Common.{ap, ◌∙◌, rules, tests}
+use Rattle.std.proofs.lemmas.Iterator.Adapters.{YieldsList-from_rev_slice}
+use Rattle.std.proofs.lemmas.Iterator.Search.{find_from_yields_List}
+use Rattle.std.specs.Option.{option_map}
 use Rattle.frames.specs.Views.{entry_fields}
-use Rattle.protocol.specs.Booking.{entry_at}
-use Rattle.logs.proofs.Searches.{at_here, at_before}
+use Rattle.frames.specs.declared.entry.Entry.{Entry}
+use Rattle.protocol.specs.Booking.{is_header}
+use Rattle.logs.proofs.Logs.{newest_found}
 use Rattle.logs.proofs.reads.entry_at.Goals as goal
 
-pub loop-i-init : goal.loop-i-init
-loop-i-init c = ap (λ xs. entry_at c.args.header (map entry_fields xs)) (take_all (length c.used-log.result.now) c.used-log.result.now (omega arith))
-
-pub returns-then-holds : goal.returns-then-holds
-returns-then-holds c =
-    sym (at_here c.args.header c.used-log.result.now c.loop-i.i c.index-log-i.result (omega arith) (omega arith) c.index-log-i.is c.if-holds.ensures)
-    ∙ c.loop-i.invariant
-    ∙ ap (λ xs. entry_at c.args.header (map entry_fields xs)) c.used-log.ensures
-
-pub loop-i-preserved : goal.loop-i-preserved
-loop-i-preserved c =
-    sym (at_before c.args.header c.used-log.result.now c.loop-i.i c.index-log-i.result (omega arith) (omega arith) c.index-log-i.is c.if-holds.ensures)
-    ∙ c.loop-i.invariant
+pub returns : goal.returns
+returns c =
+    let found = find_from_yields_List (λ (e : Entry). is_header e.header c.args.header) _ _ c.find.result c.find.ensures.ran (YieldsList-from_rev_slice c.args.log.now cc) (λ x b q k. search (rules, tests)) in
+    ap (option_map entry_fields) (c.copied.ensures ∙ found) ∙ newest_found c.args.header c.args.log.now

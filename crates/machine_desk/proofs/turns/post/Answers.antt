@@ -1,5 +1,5 @@
 use Rattle.std.proofs.Common.{sym, ap, ◌∙◌}
-use Rattle.std.specs.Option.{option_map, ok_or}
+use Rattle.std.specs.Option.{option_map}
 use Rattle.std.proofs.lemmas.Result.{err_from_is_err_and}
 use Rattle.refusals.specs.declared.Refusal.TheVariants.{OutOfRange}
 use Rattle.machine_desk.specs.Widths.{repeats_of}
@@ -19,16 +19,4 @@ returns-in_err-count c =
     record {
       value = rw (p.1, p.2) (refused_alike (repeats_of c.args.times) (option_map (λ x. x.0) whole) OutOfRange _ refused (ap (option_map (λ x. x.0)) none));
       after = sym (ap (λ x. posted_times x c.args.ledger.now.balances) none);
-    }
-
-pub returns : goal.returns
-returns c =
-    let carrier = passed (λ k. posting_of k (by_bits c.args.cents)) c.args.carrier OutOfRange c.ranges.carrier c.in_ok-posting.ensures in
-    let made = passed (posting_of c.args.carrier) c.args.cents OutOfRange c.ranges.cents carrier in
-    let counted = passed repeats_of c.args.times OutOfRange c.ranges.times c.in_ok-count.ensures in
-    let first = chained_ok (posting_of c.args.carrier c.args.cents) OutOfRange c.in_ok-posting.posting _ made in
-    let some = first ∙ chained_ok (repeats_of c.args.times) OutOfRange c.in_ok-count.count _ counted in
-    record {
-      value = sym (ap (λ x. ok_or (option_map (λ y. y.0) x) OutOfRange) some);
-      after = c.post_times.ensures ∙ sym (ap (λ x. posted_times x c.args.ledger.now.balances) some);
     }

@@ -1,54 +1,51 @@
-use Rattle.std.proofs.Common.{◌+◌, ◌<◌, ◌≤◌, ◌∷◌, map, length, drop, filter, sym, ap, ◌∙◌, subst, arith}
-use Rattle.std.proofs.lemmas.List.{length-map}
-use Rattle.backplane.specs.Lanes.{is_lane}
-use Rattle.protocol.specs.Booking.{inside, entry_frame}
-use Rattle.logs.specs.Log.{log_of}
-use Rattle.logs.proofs.Searches.{walk_none, walk_some}
-use Rattle.shipping.specs.Lanes.{Sending}
-use Rattle.shipping.proofs.Sends.{sending_more, sending_room}
+use Rattle.std.proofs.Common.{◌+◌, [], ◌∷◌, map, length, sym, ap, ◌∙◌, arith}
+use Rattle.frames.specs.Carried.{entry_frame}
+use Rattle.protocol.specs.Booking.{inside}
+use Rattle.cards.specs.LaneViews.{lane_fields}
+use Rattle.logs.proofs.Logs.{left_by, left_none, left_in, left_out}
+use Rattle.shipping.specs.Lanes.{lanes_with}
+use Rattle.shipping.proofs.Sends.{with_none, with_more, sent_long}
 use Rattle.shipping.proofs.diff.send_entries.Goals as goal
+use Rattle.shipping.proofs.diff.send_entries.Goals.{then-inside, else-inside}
 
-pub put-requires : goal.put-requires
-put-requires g c =
+pub loop-entry-preserved : goal.loop-entry-preserved
+loop-entry-preserved g c =
     let b = g.B.Backplane in
-    let s = c.args.backplane.now in
-    let m = c.loop-k.backplane in
-    let passes = inside c.args.low c.args.high in
-    let log = log_of c.args.part.now c.args.used in
-    let due = map (entry_frame 3) (filter passes log) in
-    let left = map (entry_frame 3) (filter passes (drop c.loop-k.start log)) in
-    let found = c.in-Some.ensures in
-    let next = ap (map (entry_frame 3)) (walk_some passes c.args.part.now c.args.used c.loop-k.start c.in-Some.k c.index-part-k.result found.within.1 found.within.2 c.index-part-k.is found.value) in
-    let fits : length (b.lanes s c.args.i c.args.j 0) + length due ≤ b.room s = omega (arith, length-map (filter passes log) (entry_frame 3), c.requires.room) in
-    record {
-      lane = ap (λ n. is_lane n c.args.i c.args.j 0) c.loop-k.invariant.1 ∙ c.requires.lane;
-      room = subst (λ r. length (b.lanes m c.args.i c.args.j 0) < r) (sym c.loop-k.invariant.2) (sending_room c.args.i c.args.j (b.lanes s) due (b.lanes m) left c.loop-k.invariant.0 (b.room s) _ _ next fits);
-    }
+    let p = inside c.args.low c.args.high in
+    let log = c.args.log.now in
+    let i = c.loop-entry.entry-index in
+    let lane = c.args.lane in
+    let entering = lanes_with lane.from lane.to lane.number in
+    let rest = map (entry_frame 3) (left_by p (i + 1) log) in
+    let now = b.lanes c.loop-entry.backplane in
+    let inv = c.loop-entry.invariant in
+    elim c.if-inside.branch [
+      | then-inside w ↦
+          let next = left_in p log i c.entry-item.result c.loop-entry-test.true c.entry-item.is w.if-inside.ensures in
+          let put = w.put.ensures in
+          let one = ap (λ x. x ∷ []) w.diff_entry.ensures in (
+            ap (λ x. entering rest (lane_fields (b.lanes x))) w.backplane-is
+                ∙ ap (entering rest) (put.lanes ∙ ap (λ xs. entering xs (lane_fields now)) one)
+                ∙ with_more lane.from lane.to lane.number _ rest (lane_fields now)
+                ∙ ap (λ xs. entering (map (entry_frame 3) xs) (lane_fields now)) (sym next)
+                ∙ inv.0,
+            omega (arith, ap (λ x. length (b.lanes x lane.from lane.to lane.number)) w.backplane-is, ap b.room w.backplane-is, sent_long lane.from lane.to lane.number now _ (b.lanes w.put.new.backplane) put.lanes, put.room, ap length next, inv.1),
+            ap b.count w.backplane-is ∙ put.count ∙ inv.2,
+            ap b.room w.backplane-is ∙ put.room ∙ inv.3,
+          )
+      | else-inside w ↦
+          let next = left_out p log i c.entry-item.result c.loop-entry-test.true c.entry-item.is w.if-inside.ensures in (
+            ap (λ x. entering rest (lane_fields (b.lanes x))) w.backplane-is ∙ ap (λ xs. entering (map (entry_frame 3) xs) (lane_fields now)) (sym next) ∙ inv.0,
+            omega (arith, ap (λ x. length (b.lanes x lane.from lane.to lane.number)) w.backplane-is, ap b.room w.backplane-is, ap length next, inv.1),
+            ap b.count w.backplane-is ∙ inv.2,
+            ap b.room w.backplane-is ∙ inv.3,
+          )
+    ]
 
-pub loop-k-preserved : goal.loop-k-preserved
-loop-k-preserved g c =
-    let b = g.B.Backplane in
-    let passes = inside c.args.low c.args.high in
-    let log = log_of c.args.part.now c.args.used in
-    let due = map (entry_frame 3) (filter passes log) in
-    let left = map (entry_frame 3) (filter passes (drop c.loop-k.start log)) in
-    let rest = map (entry_frame 3) (filter passes (drop (c.in-Some.k + 1) log)) in
-    let found = c.in-Some.ensures in
-    let next = ap (map (entry_frame 3)) (walk_some passes c.args.part.now c.args.used c.loop-k.start c.in-Some.k c.index-part-k.result found.within.1 found.within.2 c.index-part-k.is found.value) in (
-      sending_more c.args.i c.args.j (b.lanes c.args.backplane.now) due (b.lanes c.loop-k.backplane) left c.loop-k.invariant.0 (b.lanes c.put.new.backplane) c.entry_frame.result rest (next ∙ ap (λ f. f ∷ rest) (sym c.entry_frame.ensures)) c.put.ensures.lanes,
-      c.put.ensures.count ∙ c.loop-k.invariant.1,
-      c.put.ensures.room ∙ c.loop-k.invariant.2,
-    )
-
-pub returns : goal.returns
-returns g c =
-    let b = g.B.Backplane in
-    let passes = inside c.args.low c.args.high in
-    let log = log_of c.args.part.now c.args.used in
-    let due = map (entry_frame 3) (filter passes log) in
-    let none = ap (map (entry_frame 3)) (walk_none passes c.loop-k.start (drop c.loop-k.start log) c.in_default.ensures.value) in
-    record {
-      lanes = subst (λ left. Sending c.args.i c.args.j (b.lanes c.args.backplane.now) due (b.lanes c.loop-k.backplane) left) none c.loop-k.invariant.0;
-      count = c.loop-k.invariant.1;
-      room = c.loop-k.invariant.2;
-    }
+pub returns-clause-lanes : goal.returns-clause-lanes
+returns-clause-lanes g c =
+    let lane = c.args.lane in
+    let now = lane_fields (g.B.Backplane.lanes c.loop-entry.backplane) in
+    let none = left_none (inside c.args.low c.args.high) c.args.log.now c.loop-entry.entry-index c.loop-entry-test.false in
+    sym (ap (λ xs. lanes_with lane.from lane.to lane.number (map (entry_frame 3) xs) now) none ∙ with_none lane.from lane.to lane.number now)
+    ∙ c.loop-entry.invariant.0

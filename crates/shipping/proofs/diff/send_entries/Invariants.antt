@@ -1,17 +1,17 @@
-use Rattle.std.proofs.Common.{◌≡◌, ◌-◌, map, length, drop, filter}
-use Rattle.protocol.specs.Booking.{inside, entry_frame}
-use Rattle.logs.specs.Log.{log_of}
-use Rattle.shipping.specs.Lanes.{Sending}
+use Rattle.std.proofs.Common.{◌≡◌, ◌+◌, ◌≤◌, map, length}
+use Rattle.frames.specs.Carried.{entry_frame}
+use Rattle.protocol.specs.Booking.{inside}
+use Rattle.cards.specs.LaneViews.{lane_fields}
+use Rattle.logs.proofs.Logs.{left_by}
+use Rattle.shipping.specs.Lanes.{lanes_with}
 use Rattle.shipping.proofs.diff.send_entries.Given as goal
 
-abbrev pub invariant-loop-k : goal.invariant-loop-k
-invariant-loop-k g l =
+abbrev pub invariant-loop-entry : goal.invariant-loop-entry
+invariant-loop-entry g l =
     let b = g.B.Backplane in
-    let passes = inside l.low l.high in
-    let log = log_of l.part l.used in
-    Sending l.i l.j (b.lanes l.initial.backplane) (map (entry_frame 3) (filter passes log)) (b.lanes l.backplane) (map (entry_frame 3) (filter passes (drop l.start log)))
+    let left = left_by (inside l.low l.high) l.entry-index l.log in
+    let all = left_by (inside l.low l.high) 0 l.log in
+    (lanes_with l.lane.from l.lane.to l.lane.number (map (entry_frame 3) left) (lane_fields (b.lanes l.backplane)) ≡ lanes_with l.lane.from l.lane.to l.lane.number (map (entry_frame 3) all) (lane_fields (b.lanes l.initial.backplane)))
+    × (length (b.lanes l.backplane l.lane.from l.lane.to l.lane.number) + length left ≤ b.room l.backplane)
     × (b.count l.backplane ≡ b.count l.initial.backplane)
     × (b.room l.backplane ≡ b.room l.initial.backplane)
-
-abbrev pub decreases-loop-k : goal.decreases-loop-k
-decreases-loop-k g l = length l.part - l.start

@@ -1,51 +1,46 @@
-use Rattle.std.proofs.Common.{refl, rules}
-use Rattle.taking.proofs.Diffs.{diff_stay, diff_room, diff_passed, diff_entered, diff_back}
+use Rattle.std.proofs.Common.{◌-◌, length, ltb, Ok, sym, ap, ◌∙◌, arith, rules}
+use Rattle.frames.specs.Fields.{fields_of}
+use Rattle.logs.specs.Log.{entries_of}
+use Rattle.logs.specs.Places.{logged}
+use Rattle.protocol.specs.Taking.{kept_up_to}
+use Rattle.taking.specs.Verdicts.{verdict_on}
+use Rattle.taking.proofs.Diffs.{diff_stay, diff_room, diff_passed, diff_entered}
 use Rattle.taking.proofs.installing.take_diff.Goals as goal
 
 pub overflow_sub-full : goal.overflow_sub-full
 overflow_sub-full g c =
     let s = c.args.backplane.now in
-    diff_stay (g.B.Backplane.count s) (g.B.Backplane.lanes s) c.args.diff c.requires c.args.card.now c.args.part.now c.args.used.now c.count_up_to-stay.result c.count_up_to-stay.ensures
+    let log = c.args.log.now in
+    let counted = c.count_up_to-stay.ensures ∙ ap (λ xs. length (kept_up_to c.args.diff.base (entries_of xs))) c.entries.ensures in
+    omega (arith, c.capacity.ensures, diff_stay (g.B.Backplane.count s) (g.B.Backplane.lanes s) c.args.diff c.requires c.args.card.now log.places.now log.used c.count_up_to-stay.result counted)
 
-pub install-requires : goal.install-requires
-install-requires g c =
+pub install-requires-clause-room : goal.install-requires-clause-room
+install-requires-clause-room g c =
     let s = c.args.backplane.now in
-    record {
-      front = c.requires;
-      room = diff_room (g.B.Backplane.count s) (g.B.Backplane.lanes s) c.args.diff c.requires c.args.card.now c.args.part.now c.args.used.now c.count_up_to-stay.result c.count_up_to-stay.ensures c.in-Enter.ensures;
-    }
+    let log = c.args.log.now in
+    let diff = c.args.diff in
+    let stay = c.count_up_to-stay.result in
+    let counted = c.count_up_to-stay.ensures ∙ ap (λ xs. length (kept_up_to diff.base (entries_of xs))) c.entries.ensures in
+    let told = ap Ok (sym c.in-Ok-Enter.field-0-is) ∙ c.in-Ok-Enter.ensures ∙ ap (λ n. verdict_on c.args.card.now (fields_of 2 (diff.epoch.0, diff.epoch.1, 0) (0, 0, 0, 0)) (ltb (n - stay) diff.entries)) c.capacity.ensures in
+    diff_room (g.B.Backplane.count s) (g.B.Backplane.lanes s) diff c.requires c.args.card.now log.places.now log.used stay counted told
 
-pub returns-in-Pass : goal.returns-in-Pass
-returns-in-Pass g c =
+pub returns-in-Ok-Pass-clause-part : goal.returns-in-Ok-Pass-clause-part
+returns-in-Ok-Pass-clause-part g c =
     let s = c.args.backplane.now in
-    let passed = diff_passed (g.B.Backplane.count s) (g.B.Backplane.lanes s) c.args.diff c.requires c.args.card.now c.args.part.now c.args.used.now c.count_up_to-stay.result c.count_up_to-stay.ensures in
-    let low = c.in-Pass.ensures in
-    record {
-      part = search (rules, passed);
-      within = λ h. h;
-      stays = tt;
-      count = search rules;
-      room = search rules;
-    }
+    let log = c.args.log.now in
+    let diff = c.args.diff in
+    let stay = c.count_up_to-stay.result in
+    let counted = c.count_up_to-stay.ensures ∙ ap (λ xs. length (kept_up_to diff.base (entries_of xs))) c.entries.ensures in
+    let told = ap Ok (sym c.in-Ok-Pass.field-0-is) ∙ c.in-Ok-Pass.ensures ∙ ap (λ n. verdict_on c.args.card.now (fields_of 2 (diff.epoch.0, diff.epoch.1, 0) (0, 0, 0, 0)) (ltb (n - stay) diff.entries)) c.capacity.ensures in
+    let passed = diff_passed (g.B.Backplane.count s) (g.B.Backplane.lanes s) diff c.requires c.args.card.now log.places.now log.used stay counted in
+    search (rules, passed)
 
-pub returns-in-Enter : goal.returns-in-Enter
-returns-in-Enter g c =
+pub returns-in-Ok-Enter-clause-part : goal.returns-in-Ok-Enter-clause-part
+returns-in-Ok-Enter-clause-part g c =
     let s = c.args.backplane.now in
-    record {
-      part = diff_entered (g.B.Backplane.count s) (g.B.Backplane.lanes s) c.args.diff c.requires c.args.card.now c.args.part.now c.args.used.now c.count_up_to-stay.result c.count_up_to-stay.ensures (g.B.Backplane.lanes c.install.new.backplane) c.install.ensures.lanes c.install.new.card _ c.install.ensures.card c.install.ensures.log c.in-Enter.ensures;
-      within = λ _. c.install.ensures.within;
-      stays = tt;
-      count = c.install.ensures.count;
-      room = c.install.ensures.room;
-    }
-
-pub returns-in-Back : goal.returns-in-Back
-returns-in-Back g c =
-    let s = c.args.backplane.now in
-    record {
-      part = diff_back (g.B.Backplane.count s) (g.B.Backplane.lanes s) c.args.diff c.requires c.args.card.now c.args.part.now c.args.used.now c.count_up_to-stay.result c.count_up_to-stay.ensures c.in-Back.fault c.in-Back.ensures;
-      within = λ h. h;
-      stays = (refl, refl);
-      count = refl;
-      room = refl;
-    }
+    let log = c.args.log.now in
+    let diff = c.args.diff in
+    let stay = c.count_up_to-stay.result in
+    let counted = c.count_up_to-stay.ensures ∙ ap (λ xs. length (kept_up_to diff.base (entries_of xs))) c.entries.ensures in
+    let told = ap Ok (sym c.in-Ok-Enter.field-0-is) ∙ c.in-Ok-Enter.ensures ∙ ap (λ n. verdict_on c.args.card.now (fields_of 2 (diff.epoch.0, diff.epoch.1, 0) (0, 0, 0, 0)) (ltb (n - stay) diff.entries)) c.capacity.ensures in
+    diff_entered (g.B.Backplane.count s) (g.B.Backplane.lanes s) diff c.requires c.args.card.now log.places.now log.used stay counted (g.B.Backplane.lanes c.install.new.backplane) c.install.ensures.lanes c.install.new.card (logged c.install.new.log) c.install.ensures.card c.install.ensures.log told

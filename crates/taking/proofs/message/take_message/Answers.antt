@@ -1,51 +1,45 @@
-use Rattle.std.proofs.Common.{refl, arith}
-use Rattle.taking.proofs.Messages.{message_lane, message_waits, message_passed, message_entered, message_back}
+use Rattle.std.proofs.Common.{eqb, Ok, Err, sym, ap, ◌∙◌}
+use Rattle.frames.specs.Fields.{fields_of}
+use Rattle.protocol.specs.declared.answer.Answer.TheVariants.{Took}
+use Rattle.std.proofs.lemmas.Result.{err_from_is_err_and}
+use Rattle.cards.specs.Faults.{replied}
+use Rattle.cards.specs.LaneViews.{lane_fields}
+use Rattle.logs.specs.Places.{logged}
+use Rattle.logs.proofs.Logs.{appended}
+use Rattle.taking.specs.Verdicts.{verdict_on}
+use Rattle.taking.proofs.Messages.{message_passed, message_room, message_entered, message_back}
 use Rattle.taking.proofs.message.take_message.Goals as goal
 
-pub discard-requires : goal.discard-requires
-discard-requires g c =
+pub returns-in_err-decide-clause-part : goal.returns-in_err-decide-clause-part
+returns-in_err-decide-clause-part g c =
     let s = c.args.backplane.now in
+    let card = c.args.card.now in
+    let log = c.args.log.now in
+    let lane = c.args.lane in
+    let L = g.B.Backplane.lanes s in
+    let told = c.in_err-decide.ensures ∙ ap (λ n. verdict_on card (fields_of 1 c.args.entry.header (0, 0, 0, 0)) (eqb log.used n)) c.capacity.ensures in
+    let p = err_from_is_err_and c.from_residual.result c.from_residual.ensures.1 in
+    ap (λ r. (replied Took r, (card, logged log, lane_fields L))) (p.1 ∙ ap Err p.2)
+    ∙ message_back (g.B.Backplane.count s) lane.to lane.from lane.number L c.args.entry c.requires card log.places.now log.used log.fit c.in_err-decide.field-0.0 told
+
+pub returns-in-Pass-clause-part : goal.returns-in-Pass-clause-part
+returns-in-Pass-clause-part g c =
+    let s = c.args.backplane.now in
+    let card = c.args.card.now in
+    let log = c.args.log.now in
+    let lane = c.args.lane in
+    let told = ap Ok (sym c.in-Pass.is) ∙ c.in_ok-decide.ensures ∙ ap (λ n. verdict_on card (fields_of 1 c.args.entry.header (0, 0, 0, 0)) (eqb log.used n)) c.capacity.ensures in
+    message_passed (g.B.Backplane.count s) lane.to lane.from lane.number (g.B.Backplane.lanes s) c.args.entry c.requires card log.places.now log.used log.fit (g.B.Backplane.lanes c.discard.new.backplane) c.discard.ensures.lanes told
+
+pub returns-in-Enter-clause-part : goal.returns-in-Enter-clause-part
+returns-in-Enter-clause-part g c =
+    let s = c.args.backplane.now in
+    let card = c.args.card.now in
+    let log = c.args.log.now in
+    let lane = c.args.lane in
     let n = g.B.Backplane.count s in
     let L = g.B.Backplane.lanes s in
-    (message_lane n c.args.i c.args.j L c.args.entry c.requires, message_waits n c.args.i c.args.j L c.args.entry c.requires)
-
-pub discard-requires-in-Enter : goal.discard-requires-in-Enter
-discard-requires-in-Enter g c =
-    let s = c.args.backplane.now in
-    let n = g.B.Backplane.count s in
-    let L = g.B.Backplane.lanes s in
-    (message_lane n c.args.i c.args.j L c.args.entry c.requires, message_waits n c.args.i c.args.j L c.args.entry c.requires)
-
-pub returns-in-Pass : goal.returns-in-Pass
-returns-in-Pass g c =
-    let s = c.args.backplane.now in
-    record {
-      part = message_passed (g.B.Backplane.count s) c.args.i c.args.j (g.B.Backplane.lanes s) c.args.entry c.requires c.args.card.now c.args.part.now c.args.used.now (g.B.Backplane.lanes c.discard.new.backplane) c.discard.ensures.lanes c.in-Pass.ensures;
-      within = λ h. h;
-      stays = tt;
-      count = c.discard.ensures.count;
-      room = c.discard.ensures.room;
-    }
-
-pub returns-in-Enter : goal.returns-in-Enter
-returns-in-Enter g c =
-    let s = c.args.backplane.now in
-    let entered = message_entered (g.B.Backplane.count s) c.args.i c.args.j (g.B.Backplane.lanes s) c.args.entry c.requires c.args.card.now c.args.part.now c.args.used.now (g.B.Backplane.lanes c.discard-in-Enter.new.backplane) c.discard-in-Enter.ensures.lanes c.accept.new.self c.append.new.part c.accept.ensures c.append.ensures.places c.in-Enter.ensures in
-    record {
-      part = entered.1;
-      within = λ h. omega (arith, entered.0, c.append.auto.part);
-      stays = tt;
-      count = c.discard-in-Enter.ensures.count;
-      room = c.discard-in-Enter.ensures.room;
-    }
-
-pub returns-in-Back : goal.returns-in-Back
-returns-in-Back g c =
-    let s = c.args.backplane.now in
-    record {
-      part = message_back (g.B.Backplane.count s) c.args.i c.args.j (g.B.Backplane.lanes s) c.args.entry c.requires c.args.card.now c.args.part.now c.args.used.now c.in-Back.fault c.in-Back.ensures;
-      within = λ h. h;
-      stays = (refl, refl);
-      count = refl;
-      room = refl;
-    }
+    let told = ap Ok (sym c.in-Enter.is) ∙ c.in_ok-decide.ensures ∙ ap (λ n. verdict_on card (fields_of 1 c.args.entry.header (0, 0, 0, 0)) (eqb log.used n)) c.capacity.ensures in
+    let room = message_room n lane.to lane.from lane.number L c.args.entry c.requires card log.places.now log.used log.fit told in
+    let more = appended log.places.now c.append.new.self.places.now log.used c.append.new.self.used c.args.entry room c.append.ensures.places c.append.ensures.used in
+    message_entered n lane.to lane.from lane.number L c.args.entry c.requires card log.places.now log.used log.fit (g.B.Backplane.lanes c.discard-in-Enter.new.backplane) c.discard-in-Enter.ensures.lanes c.accept.new.self (logged c.append.new.self) c.accept.ensures more told

@@ -4,5 +4,5 @@ use Rattle.std.specs.Option.{ok_or}
 use Rattle.board.specs.Made.{booking_is}
 use Rattle.board.proofs.bookings.Booking.new.Goals as goal
 
-pub returns-then-in_range : goal.returns-then-in_range
-returns-then-in_range c = sym (ap (λ o. ok_or o OutOfRange) (booking_is c.args.load c.args.act c.args.carrier _))
+pub returns : goal.returns
+returns c = sym (ap (λ o. ok_or o OutOfRange) (booking_is c.args.load c.args.act c.args.carrier _))

@@ -6,6 +6,6 @@ use Rattle.ledger.specs.Postings.{drafted}
 use Rattle.ledger.specs.Made.{drafted_is}
 use Rattle.ledger.proofs.postings.Posting.new.Goals as goal
 
-pub returns-then-in_range : goal.returns-then-in_range
-returns-then-in_range c =
+pub returns : goal.returns
+returns c =
     sym (ap (λ o. ok_or o OutOfRange) (ap (λ z. drafted (c.args.carrier, z)) (sym (to_z-of_z w64 c.args.cents c.ranges.cents)) ∙ drafted_is c.args.carrier _ _))

@@ -18,8 +18,8 @@ returns-in_err-push g c =
     let i = c.args.card in
     let j = c.args.peer in
     let at = c.args.backplane.now in
-    let own = c.in_ok-own.own in
-    let pair = paired r i j own c.in_ok-own.ensures in
+    let seat = c.in_ok-seat.seat in
+    let pair = paired r i j seat c.in_ok-seat.ensures.value in
     let wide : b.count at ≡ card_count r.size = sym c.cards.ensures ∙ c.if-cards.false ∙ c.cards-2.ensures in
     let kind = c.args.kind in
     let is : is_row_kind kind ≡ true = and_from (leb 4 kind) (leb kind 6) (le-leb 4 kind c.if-kind-lt4.false) (le-leb kind 6 c.if-kind-gt6.false) in
@@ -29,7 +29,7 @@ returns-in_err-push g c =
     record {
       step = λ entries.
           (λ k. (reply k, view r entries (λ _. tt {0}) (b.lanes c.push.new.backplane)))
-          ∙ push_done r i j kind (b.room at) entries (λ _. tt {0}) (b.lanes at) own pair is (b.count at) wide (Err (card_refusal f)) (b.lanes c.push.new.backplane) part.part
+          ∙ push_done r i j kind (b.room at) entries (λ _. tt {0}) (b.lanes at) seat pair is (b.count at) wide (Err (card_refusal f)) (b.lanes c.push.new.backplane) part.part
           ∙ sym (lent_fits (no_peer (sizes r (b.room at)) i j) _ _ _ (eq-eqb (b.count at) (card_count r.size) wide));
       count = part.count;
       room = part.room;
@@ -42,15 +42,15 @@ returns g c =
     let i = c.args.card in
     let j = c.args.peer in
     let at = c.args.backplane.now in
-    let own = c.in_ok-own.own in
-    let pair = paired r i j own c.in_ok-own.ensures in
+    let seat = c.in_ok-seat.seat in
+    let pair = paired r i j seat c.in_ok-seat.ensures.value in
     let wide : b.count at ≡ card_count r.size = sym c.cards.ensures ∙ c.if-cards.false ∙ c.cards-2.ensures in
     let kind = c.args.kind in
     let is : is_row_kind kind ≡ true = and_from (leb 4 kind) (leb kind 6) (le-leb 4 kind c.if-kind-lt4.false) (le-leb kind 6 c.if-kind-gt6.false) in
     let part = c.in_ok-push.ensures in
     record {
       step = λ entries.
-          push_done r i j kind (b.room at) entries (λ _. tt {0}) (b.lanes at) own pair is (b.count at) wide (Ok Done) (b.lanes c.push.new.backplane) part.part
+          push_done r i j kind (b.room at) entries (λ _. tt {0}) (b.lanes at) seat pair is (b.count at) wide (Ok Done) (b.lanes c.push.new.backplane) part.part
           ∙ sym (lent_fits (no_peer (sizes r (b.room at)) i j) _ _ _ (eq-eqb (b.count at) (card_count r.size) wide));
       count = part.count;
       room = part.room;

@@ -1,17 +1,14 @@
-use Rattle.std.proofs.Common.{refl, arith}
-use Rattle.ring_table.proofs.Calls.{replicate_zero, slots_empty}
+use Rattle.std.proofs.Common.{◌<◌, ◌≤◌, sym, refl, subst, arith}
+use Rattle.ring_table.specs.declared.ring.Ring.{Ring}
+use Rattle.ring_table.proofs.Calls.{replicate_empty, slots_empty}
 use Rattle.ring_table.proofs.table.RingTable.new.Goals as goal
 
 pub invariant_of-result : goal.invariant_of-result
 invariant_of-result c = record {
-  few = omega arith;
-  some = omega arith;
-  most = omega arith;
-  heads_long = refl;
-  counts_long = refl;
-  headed = λ i. omega (arith, replicate_zero 196 i);
-  held = λ i. omega (arith, replicate_zero 196 i);
+  long = refl;
+  headed = λ i. subst (λ (r : Ring). r.head < c.args.shape.room) (sym (replicate_empty 196 i)) (omega arith);
+  held = λ i. subst (λ (r : Ring). r.count ≤ c.args.shape.room) (sym (replicate_empty 196 i)) (omega arith);
 }
 
-pub returns : goal.returns
-returns c = record { cards = refl; room = refl; slots = slots_empty c.args.shape.cards c.args.shape.room _ _ (replicate_zero 196) }
+pub returns-clause-slots : goal.returns-clause-slots
+returns-clause-slots c = slots_empty c.args.shape.cards c.args.shape.room _ (replicate_empty 196)

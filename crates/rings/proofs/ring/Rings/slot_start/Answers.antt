@@ -1,33 +1,22 @@
-use Rattle.std.proofs.Common.{◌*◌, Err, sym, ap, ◌∙◌, subst, arith}
+use Rattle.std.proofs.Common.{Err, sym, ap, ◌∙◌, subst}
 use Rattle.std.proofs.lemmas.Result.{err_from_is_err_and}
-use Rattle.ring_table.specs.Rings.{held}
 use Rattle.ring_table.specs.Table.{slots}
-use Rattle.ring_table.proofs.Bounds.{slots_most}
 use Rattle.rings.specs.Slots.{SlotAt}
 use Rattle.rings.specs.Rings.{rings_bytes, rings_lanes}
 use Rattle.rings.proofs.Frames.{waiting_bytes, none_waiting}
 use Rattle.rings.proofs.ring.Rings.slot_start.Goals as goal
 
-pub overflow_mul-result : goal.overflow_mul-result
-overflow_mul-result c =
-    let s = c.args.self.now.table in
-    omega (arith, slots_most s.cards s.room s.few s.most, c.in_ok-slot.ensures.below)
-
-pub returns : goal.returns
-returns c =
+pub returns-clause-bytes : goal.returns-clause-bytes
+returns-clause-bytes c =
+    let s = c.args.self.now in
+    let t = s.table.shape in
     let found = c.in_ok-slot.ensures in
-    record {
-      value = ap (held (λ j. j * 48)) found.value;
-      bytes = waiting_bytes c.args.self.now.table.cards c.args.self.now.table.room (slots c.args.self.now.table) c.args.self.now.store.bytes.now c.args.from c.args.to c.args.lane c.args.position c.in_ok-slot.slot c.args.self.now.frames c.args.self.now.long found.below found.value;
-    }
+    waiting_bytes t.cards t.room (slots s.table) s.store.bytes.now c.args.lane.from c.args.lane.to c.args.lane.number c.args.position c.in_ok-slot.slot s.frames s.long found.below found.value
 
-pub returns-in_err-slot : goal.returns-in_err-slot
-returns-in_err-slot c =
+pub returns-in_err-slot-clause-bytes : goal.returns-in_err-slot-clause-bytes
+returns-in_err-slot-clause-bytes c =
+    let s = c.args.self.now in
+    let t = s.table.shape in
     let p = err_from_is_err_and c.from_residual.result c.from_residual.ensures.1 in
-    let out = p.1 ∙ ap Err p.2 in
-    let found = c.in_err-slot.ensures in
-    let none = none_waiting c.args.self.now.table.cards c.args.self.now.table.room (slots c.args.self.now.table) c.args.self.now.store.bytes.now c.args.from c.args.to c.args.lane c.args.position c.in_err-slot.field-0.0 found.value in
-    record {
-      value = out ∙ ap (held (λ j. j * 48)) found.value;
-      bytes = subst (SlotAt c.args.self.now.table.cards (rings_lanes c.args.self.now) (rings_bytes c.args.self.now) c.args.from c.args.to c.args.lane c.args.position) (sym out) (sym none);
-    }
+    let none = none_waiting t.cards t.room (slots s.table) s.store.bytes.now c.args.lane.from c.args.lane.to c.args.lane.number c.args.position c.in_err-slot.field-0.0 c.in_err-slot.ensures.value in
+    subst (SlotAt t.cards (rings_lanes s) (rings_bytes s) c.args.lane.from c.args.lane.to c.args.lane.number c.args.position) (sym (p.1 ∙ ap Err p.2)) (sym none)

@@ -1,19 +1,36 @@
-use Rattle.std.proofs.Common.{arith}
-use Rattle.taking.proofs.Copies.{copy_there, copy_kind, copy_more}
-use Rattle.taking.proofs.Loads.{entry_carries}
+use Rattle.std.proofs.Common.{◌<◌, length, ◌∙◌, arith}
+use Rattle.std.proofs.lemmas.Bool.{cond-true, lt-ltb}
+use Rattle.frames.specs.Views.{frame_fields}
+use Rattle.logs.specs.Places.{logged}
+use Rattle.logs.proofs.Logs.{appended}
+use Rattle.taking.proofs.Copies.{entry_there, entry_is, copy_there, copy_kind, copy_more}
 use Rattle.taking.proofs.diff.OpenedDiff.copy_entries.Goals as goal
 
 pub frame_there-frame-requires : goal.frame_there-frame-requires
 frame_there-frame-requires g c =
     let d = c.args.self.now in
-    (c.requires.there, copy_there d.base (d.epoch.0, d.epoch.1, 0) d.entries c.loop-index.index (g.B.Backplane.lanes c.args.backplane.now d.from d.to 0) c.requires.whole c.loop-index-test.true)
+    (c.requires.there, copy_there d.base (d.epoch.0, d.epoch.1, 0) d.entries c.loop-index.index (g.B.Backplane.lanes c.args.backplane.now d.lane.from d.lane.to d.lane.number) c.requires.whole c.loop-index-test.true)
 
-pub entry_in-requires : goal.entry_in-requires
-entry_in-requires g c =
+pub unwrap-requires : goal.unwrap-requires
+unwrap-requires g c =
     let d = c.args.self.now in
-    entry_carries c.frame_there-frame.result (copy_kind d.base (d.epoch.0, d.epoch.1, 0) d.entries c.loop-index.index (g.B.Backplane.lanes c.args.backplane.now d.from d.to 0) c.requires.whole c.loop-index-test.true c.frame_there-frame.result c.frame_there-frame.ensures)
+    let frame = c.frame_there-frame.result in
+    let kind = copy_kind d.base (d.epoch.0, d.epoch.1, 0) d.entries c.loop-index.index (g.B.Backplane.lanes c.args.backplane.now d.lane.from d.lane.to d.lane.number) c.requires.whole c.loop-index-test.true frame c.frame_there-frame.ensures in
+    entry_there (frame_fields frame) c.entry.result c.entry.ensures kind
 
 pub loop-index-preserved : goal.loop-index-preserved
 loop-index-preserved g c =
     let d = c.args.self.now in
-    copy_more d.base (d.epoch.0, d.epoch.1, 0) d.entries c.loop-index.index (g.B.Backplane.lanes c.args.backplane.now d.from d.to 0) c.requires.whole c.loop-index-test.true c.frame_there-frame.result c.frame_there-frame.ensures c.args.part.now c.loop-index.part c.args.start c.entry_in.result c.entry_in.ensures (omega (arith, c.requires.room, c.loop-index-test.true, c.loop-index.auto.part)) c.loop-index.invariant
+    let frame = c.frame_there-frame.result in
+    let now = c.loop-index.log in
+    let inv = c.loop-index.invariant in
+    let wrote = c.append.ensures in
+    let lane = g.B.Backplane.lanes c.args.backplane.now d.lane.from d.lane.to d.lane.number in
+    let kind = copy_kind d.base (d.epoch.0, d.epoch.1, 0) d.entries c.loop-index.index lane c.requires.whole c.loop-index-test.true frame c.frame_there-frame.ensures in
+    let room : now.used < length now.places.now = omega (arith, inv.0.1, inv.1, c.requires.room, c.loop-index-test.true) in
+    let entry = entry_is (frame_fields frame) c.entry.result c.entry.ensures kind c.unwrap.result c.unwrap.ensures in
+    let more = appended now.places.now c.append.new.self.places.now now.used c.append.new.self.used c.unwrap.result room wrote.places wrote.used in (
+      (wrote.same.0 ∙ inv.0.0, wrote.same.1 ∙ inv.0.1),
+      omega (arith, wrote.used ∙ cond-true _ _ _ (lt-ltb _ _ room), inv.1),
+      copy_more d.base (d.epoch.0, d.epoch.1, 0) d.entries c.loop-index.index lane c.requires.whole c.loop-index-test.true frame c.frame_there-frame.ensures (logged c.args.log.now) (logged now) (logged c.append.new.self) c.unwrap.result entry inv.2 more,
+    )

@@ -6,11 +6,15 @@ use Rattle.frame_box.proofs.boxed.calls.FrameBoxBackplane.frame_at.Goals as goal
 
 pub returns : goal.returns
 returns c =
+    let s = c.args.self.now in
+    let t = s.table.shape in
     let found = c.in_ok-slot.ensures in
-    ap Ok (box_read c.args.self.now.table.cards c.args.self.now.table.room c.args.self.now.three c.args.self.now.eight (slots c.args.self.now.table) c.args.self.now.frames c.args.from c.args.to c.args.lane c.in_ok-slot.slot c.index-self-slot.result c.args.self.now.long found.below)
-    ∙ box_frame c.args.self.now.table.cards c.args.self.now.table.room c.args.self.now.three c.args.self.now.eight (slots c.args.self.now.table) c.args.self.now.frames c.args.from c.args.to c.args.lane (Ok c.in_ok-slot.slot) c.args.position found.value
+    ap Ok (box_read t.cards t.room s.three s.eight (slots s.table) s.frames c.args.lane.from c.args.lane.to c.args.lane.number c.in_ok-slot.slot c.index-self-slot.result s.long found.below)
+    ∙ box_frame t.cards t.room s.three s.eight (slots s.table) s.frames c.args.lane.from c.args.lane.to c.args.lane.number (Ok c.in_ok-slot.slot) c.args.position found.value
 
 pub returns-in_err-slot : goal.returns-in_err-slot
 returns-in_err-slot c =
+    let s = c.args.self.now in
+    let t = s.table.shape in
     let p = err_from_is_err_and c.from_residual.result c.from_residual.ensures.1 in
-    p.1 ∙ ap Err p.2 ∙ box_frame c.args.self.now.table.cards c.args.self.now.table.room c.args.self.now.three c.args.self.now.eight (slots c.args.self.now.table) c.args.self.now.frames c.args.from c.args.to c.args.lane (Err c.in_err-slot.field-0.0) c.args.position c.in_err-slot.ensures.value
+    p.1 ∙ ap Err p.2 ∙ box_frame t.cards t.room s.three s.eight (slots s.table) s.frames c.args.lane.from c.args.lane.to c.args.lane.number (Err c.in_err-slot.field-0.0) c.args.position c.in_err-slot.ensures.value

@@ -1,0 +1,63 @@
+// What a frame carries.
+ghost use Rattle.std.specs.Prelude.{◌≡◌, option_map};
+ghost use Rattle.frames.specs.Fields.{header_of, epoch_of};
+ghost use Rattle.frames.specs.Slot.{field_list};
+ghost use Rattle.frames.specs.Views.{entry_fields, frame_fields};
+ghost use Rattle.frames.specs.Carried.{carried_entry, carried_base};
+
+use crate::{Entry, Frame, Kind};
+use marks::{Epoch, Header};
+
+impl Frame {
+    // The fields in their order.
+    pub fn fields(&self) -> [u64; 8]
+        ensures { result ≡ field_list (frame_fields self.now) }
+    {
+        [
+            self.kind.number() as u64,
+            self.round as u64,
+            self.leader as u64,
+            self.count as u64,
+            self.w1,
+            self.w2,
+            self.w3,
+            self.w4,
+        ]
+    }
+
+    pub fn header(&self) -> Header
+        ensures { result ≡ header_of (frame_fields self.now) }
+    {
+        (self.round, self.leader, self.count)
+    }
+
+    pub fn epoch(&self) -> Epoch
+        ensures { result ≡ epoch_of (frame_fields self.now) }
+    {
+        (self.round, self.leader)
+    }
+
+    // The entry in a message or in a diff's frame.
+    pub fn entry(&self) -> Option<Entry>
+        ensures { option_map entry_fields result ≡ carried_entry (frame_fields self.now) }
+    {
+        match self.kind {
+            Kind::Message | Kind::DiffEntry => Some(Entry {
+                header: self.header(),
+                queue: self.w1 as u8,
+                payload: (self.w2, self.w3, self.w4),
+            }),
+            _ => None,
+        }
+    }
+
+    // The base in a diff's head.
+    pub fn base(&self) -> Option<Header>
+        ensures { result ≡ carried_base (frame_fields self.now) }
+    {
+        match self.kind {
+            Kind::DiffHead => Some((self.w1 as u32, self.w2 as u8, self.w3 as u32)),
+            _ => None,
+        }
+    }
+}
