@@ -53,9 +53,13 @@ drop_out n L f t l k = cond (is_lane n f t l) (cond (nat_lt (length (L f t l)) k
 abbrev pub drop_lanes : {A : Type 0} → ℕ → LanesOf A → ℕ → ℕ → ℕ → ℕ → LanesOf A
 drop_lanes n L f t l k = cond (is_lane n f t l && nat_le k (length (L f t l))) (with_lane L f t l (drop k (L f t l))) L
 
+-- whether k more frames fit where some wait
+abbrev pub room_out : ℕ → ℕ → ℕ → ℕ → ℕ → ℕ → ℕ → Result (Unit {0}) LaneFault
+room_out n c f t l waiting k = cond (is_lane n f t l) (cond (nat_lt c (waiting + k)) (Err Full) (Ok tt)) (Err NoSuchLane)
+
 -- several frames enter, or none
 abbrev pub send_all_out : ℕ → ℕ → Lanes → ℕ → ℕ → ℕ → List Frame → Result (Unit {0}) LaneFault
-send_all_out n c L f t l xs = cond (is_lane n f t l) (cond (nat_lt c (length (L f t l) + length xs)) (Err Full) (Ok tt)) (Err NoSuchLane)
+send_all_out n c L f t l xs = room_out n c f t l (length (L f t l)) (length xs)
 
 abbrev pub send_all_lanes : ℕ → ℕ → Lanes → ℕ → ℕ → ℕ → List Frame → Lanes
 send_all_lanes n c L f t l xs = cond (is_lane n f t l && nat_le (length (L f t l) + length xs) c) (with_lane L f t l (L f t l ++ xs)) L

@@ -2,3 +2,4 @@ pub mod Faults
 pub mod Lanes
 pub mod Quiet
 pub mod Blank
+pub mod Ports

@@ -35,8 +35,8 @@ pub trait Backplane {
     fn frame_at(&self, lane: Lane, position: usize) -> Result<Frame, LaneFault>
         ensures { result ≡ frame_out (count self.now) (lanes self.now) lane.from lane.to lane.number position };
 
-    // Kept: `count` and `room` stand at each function that takes a backplane as `&mut`, here and above. They are two facts of
-    // one line; a name for both would have to be looked up at each, and says no less by being written out.
+    // Kept: `count` and `room` stand at each function that takes a backplane as `&mut`, here and above, as the contracts of the
+    // rack's calls have them. Where a port is lent, `SamePort` says both.
     fn send(&mut self, lane: Lane, frame: Frame) -> Result<(), LaneFault>
         ensures answer { result ≡ send_out (count self.old) (room self.old) (lanes self.old) lane.from lane.to lane.number }
         ensures lanes { lanes self.new ≡ send_lanes (count self.old) (room self.old) (lanes self.old) lane.from lane.to lane.number frame }

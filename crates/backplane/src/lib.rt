@@ -4,11 +4,13 @@
 pub mod fault;
 pub mod lane;
 pub mod lanes;
+pub mod port;
 mod quiet;
 pub mod sending;
 
 pub use fault::LaneFault;
 pub use lane::Lane;
 pub use lanes::Backplane;
+pub use port::Port;
 pub use quiet::is_quiet;
-pub use sending::send_all;
+pub use sending::{find_room, send_all};

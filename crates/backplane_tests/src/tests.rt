@@ -1,32 +1,37 @@
 use crate::steps::{eight_to_a_lane, lane, message, miss_lanes, walk};
-use backplane::{Backplane, LaneFault, send_all};
+use backplane::{Backplane, LaneFault, find_room, send_all};
 use frame_box::FrameBox;
 use frames::slot::SLOT;
 use lane_calls::{Answer, Call};
 use rings::{Rings, shape_for};
+use std::process::Abort;
 use std::test::Fail;
 
-#[test]
-fn frame_box_keeps_its_lanes(rt: HostRuntime) -> Result<(), Fail> {
-    let mut frames = FrameBox::new();
-    assert!(rt; frames.cards() == 3 && frames.capacity() == 8);
-    walk(&rt, &mut frames, &eight_to_a_lane())?;
-    miss_lanes(&rt, &mut frames)?;
+// Of three cards, with room for eight frames in a lane; two frames wait at the end from card 3 to card 1 in lane 4.
+fn keeps_lanes<B: Backplane>(rt: &impl Abort, backplane: &mut B) -> Result<(), Fail> {
+    assert!(rt; backplane.cards() == 3 && backplane.capacity() == 8);
+    walk(rt, backplane, &eight_to_a_lane())?;
+    miss_lanes(rt, backplane)?;
     assert_eq!(rt;
-        send_all(&mut frames, lane(3, 1, 4), &[message(1)?, message(2)?]),
+        send_all(backplane, lane(3, 1, 4), &[message(1)?, message(2)?]),
         Ok(())
     );
     assert_eq!(rt;
-        send_all(&mut frames, lane(3, 1, 4), &[message(3)?; 7]),
+        send_all(backplane, lane(3, 1, 4), &[message(3)?; 7]),
         Err(LaneFault::Full)
     );
     assert_eq!(rt;
-        send_all(&mut frames, lane(3, 3, 4), &[]),
+        send_all(backplane, lane(3, 3, 4), &[]),
         Err(LaneFault::NoSuchLane)
     );
+    assert_eq!(rt; find_room(backplane, lane(3, 1, 4), 6), Ok(()));
+    assert_eq!(rt;
+        find_room(backplane, lane(3, 1, 4), 7),
+        Err(LaneFault::Full)
+    );
     walk(
-        &rt,
-        &mut frames,
+        rt,
+        backplane,
         &[
             (Call::Waiting(lane(3, 1, 4)), Ok(Answer::Count(2))),
             (Call::At(lane(3, 1, 4), 1), message(2).map(Answer::Shown)),
@@ -35,21 +40,16 @@ fn frame_box_keeps_its_lanes(rt: HostRuntime) -> Result<(), Fail> {
 }
 
 #[test]
+fn frame_box_keeps_its_lanes(rt: HostRuntime) -> Result<(), Fail> {
+    keeps_lanes(&rt, &mut FrameBox::new())
+}
+
+#[test]
 fn rings_keep_their_lanes(rt: HostRuntime) -> Result<(), Fail> {
     let mut bytes = [255u8; 13824];
     {
         let mut rings = Rings::over(&mut bytes[..], shape_for(3, 8, 13824)?);
-        assert!(rt; rings.cards() == 3 && rings.capacity() == 8);
-        walk(&rt, &mut rings, &eight_to_a_lane())?;
-        miss_lanes(&rt, &mut rings)?;
-        assert_eq!(rt;
-            send_all(&mut rings, lane(3, 1, 4), &[message(1)?, message(2)?]),
-            Ok(())
-        );
-        assert_eq!(rt;
-            send_all(&mut rings, lane(3, 1, 4), &[message(3)?; 7]),
-            Err(LaneFault::Full)
-        );
+        keeps_lanes(&rt, &mut rings)?;
         assert_eq!(rt;
             rings.slot_start(lane(3, 1, 4), 2),
             Err(LaneFault::NothingThere)

@@ -16,5 +16,6 @@ pub struct Booking {
     ghost inside: { bookable load carrier ≡ true },
 }
 
-// What the board is asked, if anything: the blank payload asks nothing. Its words, load 0, act 0 and carrier 0, are outside the ranges of a booking.
+// What the board is asked, if anything: the blank payload asks nothing. Its words, load 0, act 0 and carrier 0, are outside
+// the ranges of a booking.
 pub type BoardPayload = Option<Booking>;

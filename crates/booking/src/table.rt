@@ -32,6 +32,7 @@ impl<B: Backplane> Table<'_, B> {
     // Each card of the step's span in turn.
     pub(crate) fn perform(&mut self, step: Step) -> io::Result<Outcome> {
         let mut replies = Vec::new(self.rt.alloc());
+        // Kept: a loop with a push. A card's calls change the table, which the closure of a `map` would have to borrow.
         for card in step.cards.numbers() {
             replies.push(self.ask(step.deed, card)?)?;
         }

@@ -7,12 +7,11 @@ use crate::table::{Score, Table};
 use backplane::Backplane;
 use board::Board;
 use frames::Entry;
-use frames::slot::SLOT;
 use machines::Machine;
 use rack::Rack;
 use refusals::Refusal;
 use ring_table::Shape;
-use rings::Rings;
+use rings::{Rings, bytes_for};
 use std::io;
 
 // Places of a log, and frames that a lane holds.
@@ -21,10 +20,11 @@ const PLACES: usize = 4;
 const ROOM: usize = 2;
 
 // Plays a scene on a rack of its own, over rings in bytes of its own.
+// Kept: `lane_desk` lends bytes in the same way; it says why.
 pub(crate) fn run(rt: &HostRuntime, scene: Scene) -> io::Result<Score> {
     match Shape::of(scene.cards, ROOM) {
         Ok(shape) => {
-            let mut bytes = vec![in rt.alloc(); 0u8; shape.slots() * SLOT]?;
+            let mut bytes = vec![in rt.alloc(); 0u8; bytes_for(shape)]?;
             run_on(rt, scene, &mut Rings::over(bytes.as_mut_slice(), shape))
         }
         Err(refusal) => not_opened(rt, refusal),

@@ -25,7 +25,7 @@ pub fn submit(
     ensures stays { OnErr result (Untouched log.old log.new) }
 {
     let mut own = *card;
-    let header = place(&mut own, log.used, log.capacity(), *tally)?;
+    let header = place(&mut own, log.is_full(), *tally)?;
     let entry = Entry::new(header, queue, payload).map_err(|_| CardFault::Malformed)?;
     log.append(entry).unwrap();
     *card = own;

@@ -9,6 +9,7 @@ use cards::{CardFault, Member};
 use frames::Entry;
 use logs::{Delivered, deliver, deliver_one, entry_at};
 use machines::Machine;
+use marks::Span;
 use protocol::{Card, Role};
 
 // With next's count 0 every entry above committed and below next, otherwise the entry at next, which must be there.
@@ -24,7 +25,11 @@ fn deliver_due<M: Machine>(
     ensures stays { OnErr result (machine.new ≡ machine.old) }
 {
     if card.next.2 == 0 {
-        return Ok(deliver(log, card.committed, card.next, machine));
+        let span = Span {
+            low: card.committed,
+            high: card.next,
+        };
+        return Ok(deliver(log, span, machine));
     }
     let Some(entry) = entry_at(log, card.next) else {
         return Err(CardFault::NothingDue);
@@ -59,8 +64,7 @@ pub fn commit<M: Machine>(
         return Err(CardFault::NothingDue);
     }
     let delivered = deliver_due(card, log, machine)?;
-    let (round, leader, count) = card.next;
     card.committed = delivered.last;
-    card.next = (round, leader, count + 1);
+    card.next.2 += 1;
     Ok(delivered.count)
 }

@@ -1,5 +1,5 @@
 -- What a call asks of its own card, and what it leaves of it: the card's part of the rack's definitions.
-use Rattle.std.specs.Prelude.{ℕ, cond, not, ◌&&◌, ◌||◌, [], ◌∷◌, is_err, Ok, Err, Result, ◌==◌, nat_le}
+use Rattle.std.specs.Prelude.{ℕ, Bool, cond, not, ◌&&◌, ◌||◌, [], ◌∷◌, is_err, Ok, Err, Result, ◌==◌, nat_le}
 use Rattle.refusals.specs.declared.Refusal.{Refusal}
 use Rattle.marks.specs.Kinds.{epoch_of}
 use Rattle.marks.specs.Order.{epoch_same}
@@ -39,9 +39,10 @@ win_part n i c =
 abbrev pub stop_part : Card → Reply × Card
 stop_part c = ask ((c.stopped, Stopped) ∷ []) Done (stopped_card c) c
 
-abbrev pub submit_part : ℕ → ℕ → ℕ → Card → Reply × Card
-submit_part places used tally c =
-    ask ((c.stopped, Stopped) ∷ (not (is_leader c.role), WrongRole) ∷ (nat_le places used, LogFull) ∷ (nat_le 4294967294 c.accepted.2 || nat_le 18446744073709551615 tally, UsedUp) ∷ [])
+-- of whether the log is full, and of the tally
+abbrev pub submit_part : Bool → ℕ → Card → Reply × Card
+submit_part full tally c =
+    ask ((c.stopped, Stopped) ∷ (not (is_leader c.role), WrongRole) ∷ (full, LogFull) ∷ (nat_le 4294967294 c.accepted.2 || nat_le 18446744073709551615 tally, UsedUp) ∷ [])
     (Placed (place_after c.accepted)) (accepted_up_to (place_after c.accepted) c) c
 
 -- a frame, or the card's word that there is none

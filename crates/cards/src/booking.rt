@@ -10,14 +10,14 @@ ghost use Rattle.cards.specs.Sizes.{card_count};
 use crate::fault::CardFault;
 use crate::member::Member;
 use marks::rows::count_between;
-use marks::{Header, LAST_COUNT};
+use marks::{Header, LAST_COUNT, header_in};
 use protocol::{Card, Role, is_majority};
 
 // Kept: a call's checks stand in it one by one, in the order of their refusals' numbers, as its definition lists them. A
 // function for each would take the order out of sight.
-// The header of the next entry, which the card accepts.
-pub fn place(card: &mut Card, used: usize, places: usize, tally: u64) -> Result<Header, CardFault>
-    ensures { (replied Placed result, card.new) ≡ submit_part places used tally card.old }
+// The header of the next entry, which the card accepts. `full` says that its log has no room for one.
+pub fn place(card: &mut Card, full: bool, tally: u64) -> Result<Header, CardFault>
+    ensures { (replied Placed result, card.new) ≡ submit_part full tally card.old }
 {
     if card.stopped {
         return Err(CardFault::Stopped);
@@ -25,16 +25,14 @@ pub fn place(card: &mut Card, used: usize, places: usize, tally: u64) -> Result<
     if card.role != Role::Leader {
         return Err(CardFault::WrongRole);
     }
-    if places <= used {
+    if full {
         return Err(CardFault::LogFull);
     }
-    let (round, leader, count) = card.accepted;
-    if LAST_COUNT <= count || tally == u64::MAX {
+    if LAST_COUNT <= card.accepted.2 || tally == u64::MAX {
         return Err(CardFault::UsedUp);
     }
-    let header = (round, leader, count + 1);
-    card.accept(header);
-    Ok(header)
+    card.accepted.2 += 1;
+    Ok(card.accepted)
 }
 
 impl Member {
@@ -43,7 +41,7 @@ impl Member {
         ensures { result ≡ reached card.now (accept_rows (card_count self.size) self.number card.now.accepted card.now.peers) }
     {
         let rows = card.peers.known_rows(self.number, card.accepted);
-        count_reached(card, &rows[..self.size.cards() as usize])
+        count_reached(card, self.in_rack(&rows))
     }
 
     // Whether next may be delivered: a leader goes by the accept rows, a follower by its leader's commit row.
@@ -62,6 +60,5 @@ impl Member {
 fn count_reached(card: &Card, rows: &[Header]) -> usize
     ensures { result ≡ reached card.now rows.now }
 {
-    let (round, leader) = card.current;
-    count_between(card.next, (round, leader, u32::MAX), rows)
+    count_between(card.next, header_in(card.current, u32::MAX), rows)
 }

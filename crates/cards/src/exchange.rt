@@ -5,25 +5,14 @@ ghost use Rattle.marks.specs.Order.{epoch_same};
 ghost use Rattle.frames.specs.Made.{frame_from};
 ghost use Rattle.frames.specs.Views.{frame_fields};
 ghost use Rattle.protocol.specs.Booking.{with_peers};
-ghost use Rattle.protocol.specs.Exchange.{vote_frame, own_row, stored};
+ghost use Rattle.protocol.specs.Exchange.{own_row, stored};
 ghost use Rattle.cards.specs.Parts.{row_part};
 
 use crate::fault::CardFault;
 use frames::{Frame, Kind};
-use marks::Vote;
+use marks::epoch_of;
 use protocol::Card;
 use refusals::Refusal;
-
-fn vote_frame(vote: Vote) -> Result<Frame, Refusal>
-    ensures { result ≡ frame_from (vote_frame vote) }
-{
-    let ((round, leader), header) = vote;
-    Frame::of(
-        Kind::VoteRow,
-        (round, leader, 0),
-        (header.0 as u64, header.1 as u64, header.2 as u64, 0),
-    )
-}
 
 // Kept: a number for a kind. It is also the number of the lane, any number may be asked for, and `Kind::try_from` would take
 // 1 to 3 as well and refuse the rest by 8, where the rule asks for other refusals.
@@ -31,7 +20,7 @@ fn row_frame(card: &Card, kind: u8) -> Result<Frame, Refusal>
     ensures { result ≡ frame_from (own_row card.now kind) }
 {
     if kind == 5 {
-        vote_frame(card.vote)
+        Frame::vote_row(card.vote)
     } else if kind == 4 {
         Frame::of(Kind::AcceptRow, card.accepted, (0, 0, 0, 0))
     } else {
@@ -43,8 +32,7 @@ fn row_frame(card: &Card, kind: u8) -> Result<Frame, Refusal>
 fn is_undue(card: &Card, kind: u8) -> bool
     ensures { result ≡ (kind == 6 && not (epoch_same (epoch_of card.now.committed) card.now.current)) }
 {
-    let (round, leader, _) = card.committed;
-    kind == 6 && (round, leader) != card.current
+    kind == 6 && epoch_of(card.committed) != card.current
 }
 
 // The card's own row of a kind, as a frame.
@@ -66,13 +54,7 @@ pub fn store_row(card: &mut Card, peer: u8, frame: Frame)
 {
     match frame.kind {
         Kind::AcceptRow => card.peers.store_accept(peer, frame.header()),
-        Kind::VoteRow => card.peers.store_vote(
-            peer,
-            (
-                frame.epoch(),
-                (frame.w1 as u32, frame.w2 as u8, frame.w3 as u32),
-            ),
-        ),
+        Kind::VoteRow => card.peers.store_vote(peer, frame.vote().unwrap()),
         _ => card.peers.store_commit(peer, frame.header()),
     }
 }

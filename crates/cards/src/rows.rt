@@ -1,5 +1,5 @@
 // What a card reads off the rows of all cards.
-ghost use Rattle.std.specs.Prelude.{◌≡◌};
+ghost use Rattle.std.specs.Prelude.{◌≡◌, take};
 ghost use Rattle.protocol.specs.Voting.{largest_vote, is_elected};
 ghost use Rattle.marks.specs.Order.{vote_up_to};
 ghost use Rattle.marks.specs.Rows.{count_between};
@@ -13,14 +13,19 @@ use marks::rows::{count_between, largest};
 use protocol::{Card, is_majority};
 
 impl Member {
-    // Kept: here and below the rows are an array of the function's own, of which it cannot hand out the first n as a slice, so
-    // each takes its slice itself.
+    // The rows of the rack's cards, of seven.
+    pub(crate) fn in_rack<T>(self, rows: &[T; 7]) -> &[T]
+        ensures { result.now ≡ take (card_count self.size) rows.now }
+    {
+        &rows[..self.size.cards() as usize]
+    }
+
     // The largest of the n vote rows, the card's own among them.
     pub fn largest_vote(self, card: &Card) -> Vote
         ensures { result ≡ largest_vote (of_cards self.size) self.number card.now }
     {
         let rows = card.peers.known_rows(self.number, card.vote);
-        largest(card.vote, &rows[..self.size.cards() as usize])
+        largest(card.vote, self.in_rack(&rows))
     }
 
     // How many of the n vote rows equal the card's vote.
@@ -28,7 +33,7 @@ impl Member {
         ensures { result ≡ count_between vote_up_to card.now.vote card.now.vote (vote_rows (card_count self.size) self.number card.now.vote card.now.peers) }
     {
         let rows = card.peers.known_rows(self.number, card.vote);
-        count_between(card.vote, card.vote, &rows[..self.size.cards() as usize])
+        count_between(card.vote, card.vote, self.in_rack(&rows))
     }
 
     // A majority of vote rows equals the card's vote, and it leads that epoch.

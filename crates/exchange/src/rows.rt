@@ -11,6 +11,8 @@ use cards::exchange::{own_row, store_row};
 use protocol::Card;
 
 // Sends the card's own row of the lane's number.
+// Kept: a backplane and a lane, and no `Port`, here and below. Each asks the backplane once or twice and hands its refusal on
+// by `?`; a `Port` would first ask whether the lane is there.
 pub fn push<B: Backplane>(card: &Card, backplane: &mut B, lane: Lane) -> Result<(), CardFault>
     ensures part { (replied (λ _. Done) result, lane_fields (B.Backplane.lanes backplane.new)) ≡ push_part (B.Backplane.count backplane.old) (B.Backplane.room backplane.old) lane.from lane.to lane.number card.now (lane_fields (B.Backplane.lanes backplane.old)) }
     ensures count { B.Backplane.count backplane.new ≡ B.Backplane.count backplane.old }
@@ -22,6 +24,8 @@ pub fn push<B: Backplane>(card: &Card, backplane: &mut B, lane: Lane) -> Result<
 }
 
 // Takes one row from the lane and stores it in its sender's copy.
+// Kept: a call's checks stand in it one by one, in the order of its definition. A function for each would take the order out
+// of sight.
 pub fn look<B: Backplane>(card: &mut Card, backplane: &mut B, lane: Lane) -> Result<(), CardFault>
     ensures part { (replied (λ _. Done) result, (card.new, lane_fields (B.Backplane.lanes backplane.new))) ≡ look_part (B.Backplane.count backplane.old) lane.to lane.from lane.number (card.old, lane_fields (B.Backplane.lanes backplane.old)) }
     ensures count { B.Backplane.count backplane.new ≡ B.Backplane.count backplane.old }

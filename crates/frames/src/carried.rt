@@ -1,12 +1,13 @@
 // What a frame carries.
-ghost use Rattle.std.specs.Prelude.{◌≡◌, option_map};
-ghost use Rattle.frames.specs.Fields.{header_of, epoch_of};
+ghost use Rattle.std.specs.Prelude.{◌≡◌, true, option_map};
+ghost use Rattle.marks.specs.Kinds.{is_header};
+ghost use Rattle.frames.specs.Fields.{header_of, epoch_of, words_header};
 ghost use Rattle.frames.specs.Slot.{field_list};
 ghost use Rattle.frames.specs.Views.{entry_fields, frame_fields};
-ghost use Rattle.frames.specs.Carried.{carried_entry, carried_base};
+ghost use Rattle.frames.specs.Carried.{carried_entry, carried_base, carried_vote};
 
 use crate::{Entry, Frame, Kind};
-use marks::{Epoch, Header};
+use marks::{Epoch, Header, Vote, epoch_of};
 
 impl Frame {
     // The fields in their order.
@@ -34,7 +35,7 @@ impl Frame {
     pub fn epoch(&self) -> Epoch
         ensures { result ≡ epoch_of (frame_fields self.now) }
     {
-        (self.round, self.leader)
+        epoch_of(self.header())
     }
 
     // The entry in a message or in a diff's frame.
@@ -51,12 +52,30 @@ impl Frame {
         }
     }
 
+    // The header in the first three words, where they hold one.
+    fn words_header(&self) -> Header
+        requires { is_header (words_header (frame_fields self.now)) ≡ true }
+        ensures { result ≡ words_header (frame_fields self.now) }
+    {
+        (self.w1 as u32, self.w2 as u8, self.w3 as u32)
+    }
+
     // The base in a diff's head.
     pub fn base(&self) -> Option<Header>
         ensures { result ≡ carried_base (frame_fields self.now) }
     {
         match self.kind {
-            Kind::DiffHead => Some((self.w1 as u32, self.w2 as u8, self.w3 as u32)),
+            Kind::DiffHead => Some(self.words_header()),
+            _ => None,
+        }
+    }
+
+    // The vote in a vote row.
+    pub fn vote(&self) -> Option<Vote>
+        ensures { result ≡ carried_vote (frame_fields self.now) }
+    {
+        match self.kind {
+            Kind::VoteRow => Some((self.epoch(), self.words_header())),
             _ => None,
         }
     }

@@ -6,6 +6,8 @@ ghost use Rattle.frames.specs.Fields.{is_frame};
 use crate::kind::Kind;
 use std::fmt;
 
+// Kept: eight fields, and no header and words within: they are the fields of a slot in their order, of which the theorems
+// on slots speak.
 #[derive(Clone, Copy, PartialEq, Eq, Debug)]
 pub struct Frame {
     pub kind: Kind,

@@ -3,13 +3,13 @@ ghost use Rattle.std.specs.Prelude.{◌≡◌, true, ◌&&◌, if◌then◌else�
 ghost use Rattle.frames.specs.Kinds.{kind_number};
 ghost use Rattle.frames.specs.Fields.{fields_of, is_entry_header, carries_entry, carries_diff, carries_header, carries_vote};
 ghost use Rattle.frames.specs.Views.{entry_fields, frame_fields};
-ghost use Rattle.frames.specs.Carried.{of_entry, entry_frame};
+ghost use Rattle.frames.specs.Carried.{of_entry, entry_frame, vote_frame, head_frame};
 ghost use Rattle.marks.specs.Kinds.{is_header};
 ghost use Rattle.frames.specs.Made.{from_list, frame_from, entry_from};
 ghost use Rattle.frames.specs.Numbers.{word_from, frame_from_numbers};
 
 use crate::{Entry, Frame, Kind, Words};
-use marks::{Header, LAST_COUNT, is_card, is_epoch, is_header};
+use marks::{Epoch, Header, LAST_COUNT, Vote, epoch_of, header_in, is_card, is_epoch, is_header};
 use refusals::Refusal;
 
 pub type FrameWords = (u64, u64, u64, u64);
@@ -44,11 +44,19 @@ fn narrow(round: u64, leader: u64, count: u64) -> Option<Header>
 }
 
 // Whether three words hold a header.
-fn words_header(words: FrameWords) -> bool
+fn words_hold_header(words: FrameWords) -> bool
     ensures { result ≡ is_header (words.0, words.1, words.2) }
 {
     let (w1, w2, w3, _) = words;
     narrow(w1, w2, w3).is_some_and(|header| is_header(header))
+}
+
+// The words of a header, and a last one.
+fn header_words(header: Header, last: u64) -> FrameWords
+    ensures { result ≡ (header.0, header.1, header.2, last) }
+{
+    let (round, leader, count) = header;
+    (u64::from(round), u64::from(leader), u64::from(count), last)
 }
 
 // A whole number of 64 bits.
@@ -62,7 +70,7 @@ fn carries_diff(header: Header, words: FrameWords) -> bool
     ensures { result ≡ carries_diff (fields_of 2 header words) }
 {
     let (_, leader, count) = header;
-    is_card(leader) && count == 0 && words.3 <= MOST_ENTRIES && words_header(words)
+    is_card(leader) && count == 0 && words.3 <= MOST_ENTRIES && words_hold_header(words)
 }
 
 fn carries_header(header: Header, words: FrameWords) -> bool
@@ -74,8 +82,7 @@ fn carries_header(header: Header, words: FrameWords) -> bool
 fn carries_vote(header: Header, words: FrameWords) -> bool
     ensures { result ≡ carries_vote (fields_of 5 header words) }
 {
-    let (round, leader, count) = header;
-    count == 0 && words.3 == 0 && is_epoch((round, leader)) && words_header(words)
+    header.2 == 0 && words.3 == 0 && is_epoch(epoch_of(header)) && words_hold_header(words)
 }
 
 // The frame of such a kind that carries this entry.
@@ -136,9 +143,7 @@ impl Frame {
     {
         let [kind, round, leader, count, w1, w2, w3, w4] = fields;
         let kind = u8::try_from(kind).or(Err(Refusal::Malformed))?;
-        let Some(header) = narrow(round, leader, count) else {
-            return Err(Refusal::Malformed);
-        };
+        let header = narrow(round, leader, count).ok_or(Refusal::Malformed)?;
         Frame::new(kind, header, (w1, w2, w3, w4))
     }
 
@@ -147,6 +152,7 @@ impl Frame {
         ensures { result ≡ frame_from_numbers numbers }
     {
         let mut fields = [0; 8];
+        // Kept: a place by its index. Of what is written through `iter_mut` nothing is known.
         for (k, number) in numbers.iter().enumerate() {
             fields[k] = word(*number)?;
         }
@@ -165,6 +171,22 @@ impl Frame {
         ensures { frame_fields result ≡ entry_frame 3 (entry_fields entry) }
     {
         carrying(Kind::DiffEntry, entry)
+    }
+
+    // A vote as a row.
+    pub fn vote_row(vote: Vote) -> Result<Frame, Refusal>
+        ensures { result ≡ frame_from (vote_frame vote) }
+    {
+        let (epoch, header) = vote;
+        Frame::of(Kind::VoteRow, header_in(epoch, 0), header_words(header, 0))
+    }
+
+    // The head of a diff of so many entries.
+    pub fn diff_head(epoch: Epoch, base: Header, entries: usize) -> Result<Frame, Refusal>
+        ensures { result ≡ frame_from (head_frame epoch base entries) }
+    {
+        let words = header_words(base, entries as u64);
+        Frame::of(Kind::DiffHead, header_in(epoch, 0), words)
     }
 }
 

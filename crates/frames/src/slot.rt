@@ -33,6 +33,8 @@ fn fill(out: &mut [u8], frame: Frame)
     let mut map = 0u16;
     let mut bit = 1u16;
     out[0..48].copy_from_slice(&[0; SLOT]);
+    // Kept: an index beside the value. Tried over `zip` with the widths: of such a loop only the iterator is known, and not
+    // which field it has come to, so the proof did not close.
     for (i, value) in values.iter().enumerate() {
         store(out, at, *value);
         if *value != 0 {
@@ -87,6 +89,7 @@ fn read_fields(slot: &[u8]) -> Result<[u64; 8], Refusal>
     let mut values = [0u64; 8];
     let mut left = slot[0];
     let mut at = 1;
+    // Kept: the same index, by which the field is written; of what is written through `iter_mut` nothing is known.
     for (i, width) in WIDTHS.iter().enumerate() {
         if left % 2 == 1 {
             let value = load(&slot[at..at + *width]);

@@ -4,11 +4,10 @@
 mod parse;
 
 use frame_box::FrameBox;
-use frames::slot::SLOT;
 use lane_calls::{Call, Reply, apply};
 use parse::{Desk, parse_call, parse_desk};
 use ring_table::Shape;
-use rings::Rings;
+use rings::{Rings, bytes_for};
 use std::io;
 use std::io::{BufRead, BufReader};
 use std::str::Lines;
@@ -55,6 +54,7 @@ fn print(rt: &HostRuntime, reply: Reply) -> io::Result<()> {
 }
 
 // Lends bytes of this shape to what is to be done over rings.
+// Kept: `booking` lends bytes in the same way. One function for both would have the premise that its closure can be called.
 fn over_rings<F: FnOnce(&mut Rings<'_>) -> io::Result<()>>(
     rt: &HostRuntime,
     cards: u8,
@@ -65,7 +65,7 @@ fn over_rings<F: FnOnce(&mut Rings<'_>) -> io::Result<()>>(
 {
     match Shape::of(cards, room) {
         Ok(shape) => {
-            let mut bytes = vec![in rt.alloc(); 0u8; shape.slots() * SLOT]?;
+            let mut bytes = vec![in rt.alloc(); 0u8; bytes_for(shape)]?;
             work(&mut Rings::over(bytes.as_mut_slice(), shape))
         }
         Err(refusal) => println!(rt; "{refusal}"),
@@ -100,6 +100,8 @@ fn run_section(rt: &HostRuntime, section: &str) -> io::Result<()> {
 // The whole input; a line that is no text stands in it as one that is no call.
 fn read_script(rt: &HostRuntime) -> io::Result<String> {
     let mut script = String::new(rt.alloc());
+    // Kept: each program that reads lines has this loop. One function for all would be handed a closure, and a public function
+    // that is handed one has a premise, that it can be called; none here has a premise.
     for line in BufReader::new(rt.alloc(), rt.stdin())?.lines(rt.alloc()) {
         match line {
             Ok(text) => script.push_str(text.as_str())?,

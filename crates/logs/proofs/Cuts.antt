@@ -33,7 +33,7 @@ module _ {A : Type 0} where
       pub count : k ≡ length (filter passes (take i xs))
       pub places : zs ≡ overlaid (filter passes (take i xs)) ys
 
-    kept_short : (xs : List A) → length (filter passes xs) ≤ length xs
+    pub kept_short : (xs : List A) → length (filter passes xs) ≤ length xs
     kept_short [] = omega arith
     kept_short (x ∷ xs) = step (passes x) (kept_short xs)
       where

@@ -1,3 +1,4 @@
 pub mod Logs
 pub mod Cuts
+pub mod Folds
 pub mod Deliveries

@@ -1,5 +1,5 @@
 // Changing a log in place.
-ghost use Rattle.std.specs.Prelude.{min, ◌≡◌, ◌+◌, take, ltb, length, if◌then◌else◌, slice_set, Some, None};
+ghost use Rattle.std.specs.Prelude.{min, ◌≡◌, ◌+◌, ◌==◌, take, ltb, length, if◌then◌else◌, slice_set, Some, None};
 ghost use Rattle.protocol.specs.Taking.{kept_up_to};
 ghost use Rattle.logs.specs.Log.{log_of, kept_places, overlaid};
 ghost use Rattle.logs.specs.Places.{SamePlaces};
@@ -34,6 +34,13 @@ impl<'a> Log<'a> {
         self.places.len()
     }
 
+    // Whether every place is used.
+    pub fn is_full(&self) -> bool
+        ensures { result ≡ (self.now.used == length self.now.places.now) }
+    {
+        self.used == self.places.len()
+    }
+
     // Writes an entry into the first place past the used ones, or nothing where there is none.
     pub fn append(&mut self, entry: Entry) -> Option<()>
         ensures same { SamePlaces self.old self.new }
@@ -41,7 +48,7 @@ impl<'a> Log<'a> {
         ensures places { self.new.places.now ≡ (if ltb self.old.used (length self.old.places.now) then slice_set self.old.places.now self.old.used entry else self.old.places.now) }
         ensures used { self.new.used ≡ (if ltb self.old.used (length self.old.places.now) then self.old.used + 1 else self.old.used) }
     {
-        if self.used == self.places.len() {
+        if self.is_full() {
             return None;
         }
         self.places[self.used] = entry;

@@ -9,4 +9,4 @@ mod reads;
 
 pub use delivery::{Delivered, deliver, deliver_one};
 pub use log::Log;
-pub use reads::{count_up_to, entry_at, inside, inside_count, read_up_to};
+pub use reads::{count_up_to, entry_at, inside_count, read_up_to};

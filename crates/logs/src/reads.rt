@@ -8,14 +8,7 @@ ghost use Rattle.protocol.specs.Taking.{kept_up_to};
 ghost use Rattle.logs.specs.Log.{entries_of, kept_places, copied_into, copied_count};
 
 use frames::Entry;
-use marks::Header;
-
-// Whether an entry is above `low` and below `high`.
-pub fn inside(low: Header, high: Header, entry: Entry) -> bool
-    ensures { result ≡ inside low high (entry_fields entry) }
-{
-    low < entry.header && entry.header < high
-}
+use marks::{Header, Span};
 
 // Whether an entry is at or below `base`.
 pub(crate) fn is_up_to(base: Header, entry: Entry) -> bool
@@ -34,13 +27,11 @@ pub fn entry_at(log: &[Entry], header: Header) -> Option<Entry>
         .copied()
 }
 
-// How many entries are above `low` and below `high`.
-pub fn inside_count(log: &[Entry], low: Header, high: Header) -> usize
-    ensures { result ≡ length (filter (inside low high) (entries_of log.now)) }
+// How many entries a span holds.
+pub fn inside_count(log: &[Entry], span: Span) -> usize
+    ensures { result ≡ length (filter (inside span.low span.high) (entries_of log.now)) }
 {
-    log.iter()
-        .filter(|entry| inside(low, high, **entry))
-        .count()
+    log.iter().filter(|entry| span.holds(entry.header)).count()
 }
 
 // How many entries are at or below `base`.
@@ -59,8 +50,8 @@ pub fn read_up_to(log: &[Entry], base: Header, out: &mut [Entry]) -> Option<usiz
     if out.len() < wanted {
         return None;
     }
-    // Kept: tried over `out.iter_mut().zip(..)`, and the proof did not close: of such a loop it is not known what it wrote. A
-    // count by `enumerate` over the filtered log would hide which entries are copied from the invariant.
+    // Kept: tried over `out.iter_mut().zip(..)`, and the proof did not close: of such a loop it is not known what it wrote.
+    // Tried over the filtered log with `enumerate`: there the check knows the iterator, and not which entries are copied.
     let mut copied = 0;
     for entry in log {
         if is_up_to(base, *entry) {

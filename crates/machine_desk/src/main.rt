@@ -14,8 +14,8 @@ use std::io::{BufRead, BufReader};
 
 fn main(rt: HostRuntime) -> io::Result<()> {
     let mut desk = Desk::open();
-    // Kept: each desk's main has this loop. Each answers a line that is no text by its own reply type, and some of them on
-    // the heap; a crate for one function of three arms would be longer than the arms.
+    // Kept: each program that reads lines has this loop. One function for all would be handed a closure, and a public function
+    // that is handed one has a premise, that it can be called; none here has a premise.
     for line in BufReader::new(rt.alloc(), rt.stdin())?.lines(rt.alloc()) {
         let reply = match line {
             Ok(text) => desk.answer(text.as_str()),

@@ -9,7 +9,7 @@ ghost use Rattle.machine_desk.specs.Turns.{asked_of, words_of, posting_of, poste
 use crate::numbers::{held, repeats};
 use board::{Act, Board, BoardPayload};
 use ledger::{Ledger, Posting};
-use machines::{Machine, Words, perform};
+use machines::{Machine, Words, apply_words, perform};
 use refusals::Refusal;
 
 pub fn ask(board: &mut Board, act: Act, load: i128, carrier: i128) -> Result<BoardPayload, Refusal>
@@ -60,9 +60,7 @@ pub fn deliver<M: Machine>(
     ensures value { result ≡ ok_or (option_map M.Machine.unpacked (words_of numbers)) OutOfRange }
     ensures after { M.Machine.state machine.new ≡ performed M.Machine.applied 0 (option_map M.Machine.unpacked (words_of numbers)) (M.Machine.state machine.old) }
 {
-    let payload = M::unpack(words(numbers)?);
-    machine.apply(0, payload);
-    Ok(payload)
+    Ok(apply_words(machine, 0, words(numbers)?))
 }
 
 fn words(numbers: (i128, i128, i128)) -> Result<Words, Refusal>

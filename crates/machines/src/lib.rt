@@ -9,4 +9,4 @@ mod turns;
 pub use frames::Words;
 pub use meaning::Machine;
 pub use runs::{Item, lone};
-pub use turns::{perform, through_words};
+pub use turns::{apply_words, perform, through_words};

@@ -3,6 +3,7 @@ ghost use Rattle.std.specs.Prelude.{◌≡◌};
 ghost use Rattle.machines.specs.Lone.{alone};
 
 use crate::meaning::Machine;
+use crate::turns::apply_words;
 use frames::Words;
 
 #[derive(Clone, Copy, PartialEq, Eq, Debug)]
@@ -16,7 +17,7 @@ pub fn lone<M: Machine>(items: &[Item]) -> M
 {
     let mut machine = M::start();
     for item in items {
-        machine.apply(item.queue, M::unpack(item.words));
+        apply_words(&mut machine, item.queue, item.words);
     }
     machine
 }

@@ -5,6 +5,7 @@ ghost use Rattle.refusals.specs.declared.Refusal.TheVariants.{OutOfRange};
 ghost use Rattle.machines.specs.Turn.{performed};
 
 use crate::meaning::Machine;
+use frames::Words;
 use refusals::Refusal;
 
 // Makes a payload and applies it; what cannot be made leaves the machine as it is.
@@ -19,6 +20,16 @@ pub fn perform<M: Machine>(
     let payload = M::make(draft)?;
     machine.apply(queue, payload);
     Ok(payload)
+}
+
+// Applies what words unpack to, and gives that payload back.
+pub fn apply_words<M: Machine>(machine: &mut M, queue: u8, words: Words) -> M::Payload
+    ensures value { result ≡ M.Machine.unpacked words }
+    ensures after { M.Machine.state machine.new ≡ M.Machine.applied queue (M.Machine.unpacked words) (M.Machine.state machine.old) }
+{
+    let unpacked = M::unpack(words);
+    machine.apply(queue, unpacked);
+    unpacked
 }
 
 // A payload that travels as words arrives as it left.

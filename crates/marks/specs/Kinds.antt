@@ -16,6 +16,9 @@ Vote = Epoch × Header
 abbrev pub epoch_of : Header → Epoch
 epoch_of h = (h.0, h.1)
 
+abbrev pub header_in : Epoch → ℕ → Header
+header_in e count = (e.0, e.1, count)
+
 -- only the null epoch is led by no card
 abbrev pub is_null_epoch : Epoch → Bool
 is_null_epoch e = e.0 == 0 && e.1 == 0

@@ -2,13 +2,16 @@
 #![tactic(auto)]
 
 ghost use Rattle.std.specs.Prelude.{◌≡◌};
-ghost use Rattle.marks.specs.Kinds.{is_card, is_epoch, is_header, is_vote};
+ghost use Rattle.marks.specs.Kinds.{epoch_of, header_in, is_card, is_epoch, is_header, is_vote};
 ghost use Rattle.marks.specs.Least.{least_epoch, LeastLedAbove};
 ghost use Rattle.marks.specs.Samples.{LeastEpochSamples};
 
 use refusals::Refusal;
 
 pub mod rows;
+mod span;
+
+pub use span::Span;
 
 pub type Epoch = (u32, u8);
 
@@ -19,6 +22,19 @@ pub type Vote = (Epoch, Header);
 pub const LAST_ROUND: u32 = u32::MAX;
 
 pub const LAST_COUNT: u32 = u32::MAX - 1;
+
+// The header in an epoch with this count.
+pub fn header_in(epoch: Epoch, count: u32) -> Header
+    ensures { result ≡ header_in epoch count }
+{
+    (epoch.0, epoch.1, count)
+}
+
+pub fn epoch_of(header: Header) -> Epoch
+    ensures { result ≡ epoch_of header }
+{
+    (header.0, header.1)
+}
 
 // The cards of the largest rack.
 pub fn is_card(n: u8) -> bool

@@ -15,6 +15,7 @@ use protocol::Call;
 use rack::{Rack, RackFault};
 
 // Writes the reply to each call into its place. Refused by 2, before the first call, where a size does not fit.
+// Kept: calls and replies as two slices of one length: the caller lends the places, since nothing allocates.
 pub fn play<B: Backplane, M: Machine>(
     rack: &mut Rack,
     entries: &mut [Entry],

@@ -6,7 +6,7 @@ use Rattle.refusals.specs.declared.Refusal.TheVariants.{NoSuchCard, OutOfRange, 
 use Rattle.marks.specs.Kinds.{Epoch, Header}
 use Rattle.marks.specs.Order.{header_below}
 use Rattle.frames.specs.Fields.{Words, EntryFields, FrameFields}
-use Rattle.frames.specs.Carried.{entry_frame}
+use Rattle.frames.specs.Carried.{entry_frame, head_frame}
 use Rattle.protocol.specs.Rows.{row_of, mark_shipped}
 use Rattle.protocol.specs.Rack.{Sizes, State, Reply, with_card, with_log, with_tally, with_lane, ask, no_card, no_peer, is_leader}
 use Rattle.protocol.specs.declared.answer.Answer.TheVariants.{Placed, Count}
@@ -50,9 +50,6 @@ submitted i queue payload s =
 
 abbrev pub submit : {S : Type 0} → Sizes → ℕ → ℕ → Words → State S → Reply × State S
 submit z i queue payload s = ask (submit_checks z i queue s) (Placed (place_after (s.cards i).accepted)) (submitted i queue payload s) s
-
-abbrev pub head_frame : Epoch → Header → ℕ → FrameFields
-head_frame e base entries = record { kind = 2; round = e.0; leader = e.1; count = 0; w1 = base.0; w2 = base.1; w3 = base.2; w4 = entries }
 
 abbrev pub is_header : Header → Header → Bool
 is_header a b = a.0 == b.0 && (a.1 == b.1 && a.2 == b.2)

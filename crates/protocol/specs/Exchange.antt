@@ -2,10 +2,11 @@
 use Rattle.std.specs.Prelude.{ℕ, Bool, true, cond, not, ◌&&◌, List, [], ◌∷◌, ◌++◌, length, drop, ◌==◌, nat_le}
 use Rattle.refusals.specs.declared.Refusal.{Refusal}
 use Rattle.refusals.specs.declared.Refusal.TheVariants.{NoSuchCard, OutOfRange, Stopped, NothingDue, Malformed, LaneFull}
-use Rattle.marks.specs.Kinds.{Header, Vote}
+use Rattle.marks.specs.Kinds.{Header}
 use Rattle.marks.specs.Kinds as kinds
 use Rattle.marks.specs.Order.{epoch_same}
 use Rattle.frames.specs.Fields.{FrameFields, header_of, epoch_of, words_header}
+use Rattle.frames.specs.Carried.{vote_frame}
 use Rattle.protocol.specs.Rows.{store_accept, store_vote, store_commit}
 use Rattle.protocol.specs.Rack.{Sizes, State, Reply, with_card, with_lane, ask, no_card, no_peer, is_row_kind}
 use Rattle.protocol.specs.Booking.{with_peers}
@@ -14,12 +15,9 @@ use Rattle.protocol.specs.declared.answer.Answer.TheVariants.{Done}
 use Rattle.protocol.specs.declared.card.Card.{Card}
 use Rattle.protocol.specs.declared.peers.PeerTable.{PeerTable}
 
--- an accept row and a commit row carry a header, a vote row an epoch and a header
+-- an accept row and a commit row carry a header
 abbrev pub header_frame : ℕ → Header → FrameFields
 header_frame kind h = record { kind = kind; round = h.0; leader = h.1; count = h.2; w1 = 0; w2 = 0; w3 = 0; w4 = 0 }
-
-abbrev pub vote_frame : Vote → FrameFields
-vote_frame v = record { kind = 5; round = v.0.0; leader = v.0.1; count = 0; w1 = v.1.0; w2 = v.1.1; w3 = v.1.2; w4 = 0 }
 
 -- a card's own rows are its accepted header, its vote and its committed header
 abbrev pub own_row : Card → ℕ → FrameFields

@@ -8,7 +8,7 @@ ghost use Rattle.protocol.specs.Taking.{entered_by};
 ghost use Rattle.protocol.specs.Exchange.{stopped_card};
 
 use crate::peers::PeerTable;
-use marks::{Epoch, Header, Vote};
+use marks::{Epoch, Header, Vote, header_in};
 
 #[derive(Clone, Copy, PartialEq, Eq, Debug)]
 pub enum Role {
@@ -71,11 +71,10 @@ impl Card {
     pub fn lead(&mut self)
         ensures { self.new ≡ won_by self.old }
     {
-        let (round, leader) = self.newest;
         self.role = Role::Leader;
         self.current = self.newest;
-        self.accepted = (round, leader, 0);
-        self.next = (round, leader, 0);
+        self.accepted = header_in(self.newest, 0);
+        self.next = self.accepted;
         self.peers.forget_shipped();
     }
 
@@ -89,12 +88,11 @@ impl Card {
     pub fn enter(&mut self, epoch: Epoch)
         ensures { self.new ≡ entered_by epoch self.old }
     {
-        let (round, leader) = epoch;
         self.role = Role::Follower;
         self.current = epoch;
         self.newest = epoch;
-        self.accepted = (round, leader, 0);
-        self.next = (round, leader, 0);
+        self.accepted = header_in(epoch, 0);
+        self.next = self.accepted;
     }
 
     pub fn stop(&mut self)

@@ -10,10 +10,11 @@ use Rattle.frames.specs.Fields.{Words, EntryFields, FrameFields, is_word, is_ent
 use Rattle.frames.specs.Made.{kind_at, with_kind, frame_from, entry_from}
 use Rattle.frames.specs.Views.{entry_fields, frame_fields}
 use Rattle.frames.proofs.Reading.{made_from, entry_made}
+use Rattle.frames.specs.Carried.{head_frame, vote_frame}
 use Rattle.protocol.specs.Rows.{row_of}
 use Rattle.protocol.specs.Rack.{is_leader, is_row_kind}
-use Rattle.protocol.specs.Booking.{place_after, booked, head_frame}
-use Rattle.protocol.specs.Exchange.{header_frame, vote_frame, own_row}
+use Rattle.protocol.specs.Booking.{place_after, booked}
+use Rattle.protocol.specs.Exchange.{header_frame, own_row}
 use Rattle.protocol.specs.declared.card.Card.{Card}
 use Rattle.rack.specs.Sound.{sound_card}
 use Rattle.rack.proofs.Sounds.{sound_parts, row_parts, sound_row_lem, place_entry}

@@ -40,6 +40,9 @@ impl Rack {
             return Err(RackFault::OutOfRange);
         }
         let mut tally = self.tally;
+        // Kept: cut out here and in `take`. A function that hands the part out has to say in a `Lends` clause what the entries
+        // hold once it is given back. Tried over two cuts, whose clause the check proves for one cut alone, and over
+        // `&mut entries[low..high]`, of which it does not know what is held afterwards.
         let (_, rest) = entries.split_at_mut(self.start(card));
         let (places, _) = rest.split_at_mut(self.places);
         let mut log = Log {

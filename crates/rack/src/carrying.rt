@@ -58,6 +58,7 @@ impl Rack {
         if entries.len() != self.total() || backplane.cards() != self.size.cards() {
             return Err(RackFault::WrongSize);
         }
+        // Kept: cut out here, as in `submit`, which says why.
         let (_, rest) = entries.split_at_mut(self.start(card));
         let (places, _) = rest.split_at_mut(self.places);
         let mut log = Log {

@@ -1,5 +1,5 @@
 // open: every card electing with all marks null, logs empty, machines at their start.
-ghost use Rattle.std.specs.Prelude.{◌≡◌, IfOk};
+ghost use Rattle.std.specs.Prelude.{◌≡◌, ◌&&◌, IfOk, nat_le};
 ghost use Rattle.std.specs.List.{AllByRecursion};
 ghost use Rattle.rack.specs.Opening.{Opening, Promises, StandsAlone};
 ghost use Rattle.rack.specs.View.{sizes};
@@ -14,6 +14,12 @@ use machines::Machine;
 
 // The most places that a log may have.
 pub const MOST_PLACES: usize = 1024;
+
+fn is_log_size(places: usize) -> bool
+    ensures { result ≡ (nat_le 1 places && nat_le places 1024) }
+{
+    (1..=MOST_PLACES).contains(&places)
+}
 
 fn restart<M: Machine + Drop>(machines: &mut [M])
     ensures { AllByRecursion (λ m. M.Machine.state m ≡ M.Machine.initial) machines.new }
@@ -36,10 +42,8 @@ impl Rack {
         ensures laws { IfOk result (λ rack. Promises M.Machine.initial (λ q w. M.Machine.applied q (M.Machine.unpacked w)) (sizes rack (B.Backplane.room backplane.now))) }
         ensures lone { IfOk result (λ rack. StandsAlone M.Machine.initial M.Machine.applied M.Machine.unpacked (sizes rack (B.Backplane.room backplane.now))) }
     {
-        let Ok(size) = RackSize::try_from(cards) else {
-            return Err(RackFault::WrongSize);
-        };
-        if places < 1 || MOST_PLACES < places {
+        let size = RackSize::try_from(cards).or(Err(RackFault::WrongSize))?;
+        if !is_log_size(places) {
             return Err(RackFault::WrongSize);
         }
         let total = cards as usize * places;

@@ -1,7 +1,7 @@
 // push and look.
 ghost use Rattle.std.specs.Prelude.{◌≡◌, List as Listing};
 ghost use Rattle.frames.specs.declared.entry.Entry.{Entry as AnEntry};
-ghost use Rattle.protocol.specs.Rack.{no_peer};
+ghost use Rattle.protocol.specs.Rack.{no_peer, is_row_kind};
 ghost use Rattle.protocol.specs.Exchange.{push, look};
 ghost use Rattle.protocol.specs.declared.answer.Answer.TheVariants.{Done};
 ghost use Rattle.rack.specs.Faults.{told};
@@ -10,6 +10,13 @@ ghost use Rattle.rack.specs.View.{view, sizes, cards_fit, lent};
 use crate::fault::RackFault;
 use crate::state::Rack;
 use backplane::{Backplane, Lane};
+
+// Accept rows, vote rows and commit rows.
+fn is_row_kind(kind: u8) -> bool
+    ensures { result ≡ is_row_kind kind }
+{
+    (4..=6).contains(&kind)
+}
 
 // Kept: a call's checks stand in it one by one, in the order of their refusals' numbers, as its definition lists them. A
 // function for each would take the order out of sight.
@@ -32,7 +39,7 @@ impl Rack {
         if backplane.cards() != self.size.cards() {
             return Err(RackFault::WrongSize);
         }
-        if kind < 4 || 6 < kind {
+        if !is_row_kind(kind) {
             return Err(RackFault::OutOfRange);
         }
         let lane = Lane {
@@ -61,7 +68,7 @@ impl Rack {
         if backplane.cards() != self.size.cards() {
             return Err(RackFault::WrongSize);
         }
-        if kind < 4 || 6 < kind {
+        if !is_row_kind(kind) {
             return Err(RackFault::OutOfRange);
         }
         let lane = Lane {

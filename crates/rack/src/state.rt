@@ -7,6 +7,7 @@ ghost use Rattle.rack.specs.Sound.{sound_card};
 use crate::seat::Seat;
 use cards::RackSize;
 
+// Kept: seven seats beside the size, as a card's table has seven rows: fixed memory, and no heap.
 #[derive(Drop)]
 pub struct Rack {
     pub(crate) size: RackSize,

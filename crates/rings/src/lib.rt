@@ -4,4 +4,4 @@
 pub mod ring;
 mod store;
 
-pub use ring::{Rings, shape_for};
+pub use ring::{Rings, bytes_for, shape_for};

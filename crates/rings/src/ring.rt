@@ -10,7 +10,7 @@ use ring_table::RingTable;
 
 mod calls;
 
-pub use calls::shape_for;
+pub use calls::{bytes_for, shape_for};
 
 #[derive(Drop)]
 pub struct Rings<'a> {

@@ -12,19 +12,19 @@ use Rattle.frames.specs.Views.{frame_fields}
 use Rattle.frames.proofs.Reading.{from_made}
 use Rattle.backplane.specs.declared.fault.LaneFault.{LaneFault}
 use Rattle.backplane.specs.Faults.{fault_refusal}
-use Rattle.backplane.specs.Lanes.{Lanes}
-use Rattle.frames.specs.Carried.{entry_frame}
-use Rattle.protocol.specs.Booking.{head_frame, diff_entries, diff_frames}
+use Rattle.backplane.specs.Lanes.{Lanes, room_out}
+use Rattle.frames.specs.Carried.{entry_frame, head_frame}
+use Rattle.protocol.specs.Booking.{diff_entries, diff_frames}
 use Rattle.protocol.specs.declared.answer.Answer.TheVariants.{Count}
 use Rattle.cards.specs.Faults.{card_refusal}
 use Rattle.cards.specs.LaneViews.{lane_fields}
 use Rattle.cards.specs.Parts.{framed}
 use Rattle.cards.specs.declared.fault.CardFault.{CardFault}
 use Rattle.cards.specs.declared.fault.CardFault.TheVariants as card
-use Rattle.shipping.specs.Lanes.{room_out, lanes_with}
+use Rattle.shipping.specs.Lanes.{lanes_with}
 use Rattle.shipping.specs.Shipping.{no_head, enter_part}
-use Rattle.shipping.proofs.Sends.{with_more, sent_long}
-use Rattle.shipping.proofs.Entering.{room_there, enter_malformed, enter_refused, enter_all}
+use Rattle.shipping.proofs.Sends.{with_more}
+use Rattle.shipping.proofs.Entering.{enter_malformed, enter_refused, enter_all}
 
 module _ (e : Epoch) (base : Header) (k : ℕ) where
   head_refused : (fault : CardFault) → Err fault ≡ framed (frame_from (head_frame e base k)) → (fault ≡ card.Malformed) × (is_frame (head_frame e base k) ≡ false)
@@ -84,9 +84,6 @@ module _ (n room f t l : ℕ) (before : Lanes) (e : Epoch) (base : Header) (log 
 
     -- the head enters first, and the entries have room behind it
     module _ (fits : Ok tt ≡ room_out n room f t l (length (before f t l)) (k + 1)) (lanes : Lanes) (headed : lane_fields lanes ≡ lanes_with f t l (frame_fields x ∷ []) (lane_fields before)) where
-      pub diff_room : length (lanes f t l) + length (diff_entries e base log) ≤ room
-      diff_room = omega (arith, sent_long f t l before (frame_fields x ∷ []) lanes headed, counted, (room_there n room f t l (length (before f t l)) (k + 1) fits).1)
-
       pub diff_sent : (after : Lanes) → lane_fields after ≡ lanes_with f t l entries (lane_fields lanes) → (Ok (Count (k + 1)), lane_fields after) ≡ enter_part n room f t l (no_head e base log) due (lane_fields before)
       diff_sent after rest =
           let first : frame_fields x ∷ entries ≡ due = ap (λ h. h ∷ entries) (head_fields e base k x made) ∙ ap (λ m. head_frame e base m ∷ entries) counted in

@@ -8,11 +8,11 @@ use Rattle.frames.specs.Views.{frame_fields}
 use Rattle.backplane.specs.declared.fault.LaneFault.{LaneFault}
 use Rattle.backplane.specs.declared.fault.LaneFault.TheVariants.{NoSuchLane, Full}
 use Rattle.backplane.specs.Faults.{fault_refusal}
-use Rattle.backplane.specs.Lanes.{Lanes, LanesOf, is_lane}
+use Rattle.backplane.specs.Lanes.{Lanes, LanesOf, is_lane, room_out}
 use Rattle.protocol.specs.Rack.{Reply}
 use Rattle.protocol.specs.declared.answer.Answer.TheVariants.{Count}
 use Rattle.cards.specs.LaneViews.{lane_fields}
-use Rattle.shipping.specs.Lanes.{room_out, lanes_with}
+use Rattle.shipping.specs.Lanes.{lanes_with}
 use Rattle.shipping.specs.Shipping.{enter_part}
 
 abbrev Left : Type 0

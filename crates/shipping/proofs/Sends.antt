@@ -7,6 +7,10 @@ use Rattle.frames.specs.declared.frame.Frame.{Frame}
 use Rattle.frames.specs.Fields.{FrameFields}
 use Rattle.frames.specs.Views.{frame_fields}
 use Rattle.backplane.specs.Lanes.{Lanes, LanesOf, with_lane}
+use Rattle.backplane.specs.Ports.{SamePort, lanes_of, lanes_at, waits}
+use Rattle.backplane.specs.declared.lane.Lane.{Lane}
+use Rattle.backplane.specs.declared.lanes.Backplane.{Ghosts}
+use Rattle.backplane.specs.declared.port.Port.{Port}
 use Rattle.backplane.proofs.LaneLaws.{with_here, with_with, with_same}
 use Rattle.protocol.specs.Rack.{at_lane}
 use Rattle.cards.specs.LaneViews.{lane_fields}
@@ -50,7 +54,7 @@ module _ {A : Type 0} (f t l : ℕ) where
   with_there xs L = ap (λ (N : LanesOf A). N f t l) (at_is (L f t l ++ xs) L) ∙ with_here L f t l (L f t l ++ xs)
 
 module _ (f t l : ℕ) (before : Lanes) where
-  pub sent : (x : Frame) → lane_fields (with_lane before f t l (before f t l ++ x ∷ [])) ≡ lanes_with f t l (frame_fields x ∷ []) (lane_fields before)
+  sent : (x : Frame) → lane_fields (with_lane before f t l (before f t l ++ x ∷ [])) ≡ lanes_with f t l (frame_fields x ∷ []) (lane_fields before)
   sent x = fields_with before f t l (before f t l ++ x ∷ []) ∙ ap (λ ys. at_lane f t l ys (lane_fields before)) (map-append frame_fields (before f t l) (x ∷ []))
 
   -- how many wait
@@ -61,3 +65,11 @@ module _ (f t l : ℕ) (before : Lanes) where
       ∙ ap length (with_there f t l due (lane_fields before))
       ∙ length-append (lane_fields before f t l) due
       ∙ ap (λ n. n + length due) (length-map (before f t l) frame_fields)
+
+-- one frame put into a lane that there is
+module _ {B : Type 0} {b : Ghosts B} {p q : Port B b} (x : Frame) (same : SamePort p q) (lanes : lanes_of q ≡ lanes_at p (waits p ++ x ∷ [])) where
+  pub put_sent : lane_fields (lanes_of q) ≡ lanes_with p.lane.from p.lane.to p.lane.number (frame_fields x ∷ []) (lane_fields (lanes_of p))
+  put_sent = ap lane_fields lanes ∙ sent p.lane.from p.lane.to p.lane.number (lanes_of p) x
+
+  pub put_long : length (waits q) ≡ length (waits p) + 1
+  put_long = ap (λ (at : Lane). length (lanes_of q at.from at.to at.number)) same.lane ∙ sent_long p.lane.from p.lane.to p.lane.number (lanes_of p) (frame_fields x ∷ []) (lanes_of q) put_sent

@@ -5,9 +5,10 @@ use Rattle.refusals.specs.declared.Refusal.TheVariants.{NoSuchCard, Stopped, Wro
 use Rattle.marks.specs.Kinds.{Epoch, Header}
 use Rattle.frames.specs.Fields.{EntryFields, FrameFields, is_frame}
 use Rattle.backplane.specs.Lanes.{LanesOf, is_lane}
+use Rattle.frames.specs.Carried.{head_frame}
 use Rattle.protocol.specs.Rows.{row_of, mark_shipped}
 use Rattle.protocol.specs.Rack.{Reply, ask, is_leader}
-use Rattle.protocol.specs.Booking.{head_frame, diff_entries, shipment, shipped_after, with_peers}
+use Rattle.protocol.specs.Booking.{diff_entries, shipment, shipped_after, with_peers}
 use Rattle.protocol.specs.declared.answer.Answer.TheVariants.{Count}
 use Rattle.protocol.specs.declared.card.Card.{Card}
 use Rattle.shipping.specs.Lanes.{lanes_with}

@@ -13,21 +13,22 @@ use crate::message::send_message;
 use backplane::{Backplane, Lane};
 use cards::CardFault;
 use frames::Entry;
+use marks::header_in;
 use protocol::{Card, Role};
 
 mod diff;
 mod lane;
 mod message;
 
-// Kept: a call's checks stand in it one by one, in the order of their refusals' numbers, as its definition lists them. A
-// function for each would take the order out of sight.
 // Ships what is due to a peer: first the diff from the copy of its commit row, afterwards the next message. All frames
 // enter lane 0, or none.
+// Kept: a call's checks stand in it one by one, in the order of their refusals' numbers, as its definition lists them. A
+// function for each would take the order out of sight.
+// Kept: two cards and no lane, since that it is lane 0 is the rule's, and not the caller's.
 pub fn ship<B: Backplane>(
     card: &mut Card,
     log: &[Entry],
     backplane: &mut B,
-    // Kept: two cards and no lane, since that it is lane 0 is the rule's, and not the caller's.
     i: u8,
     j: u8,
 ) -> Result<u32, CardFault>
@@ -54,9 +55,8 @@ pub fn ship<B: Backplane>(
             Ok(frames)
         }
         Some(shipped) => {
-            let (round, leader) = card.current;
             let count = shipped.checked_add(1).ok_or(CardFault::NothingDue)?;
-            let frames = send_message((round, leader, count), log, backplane, lane)?;
+            let frames = send_message(header_in(card.current, count), log, backplane, lane)?;
             card.peers.mark_shipped(j, Some(count));
             Ok(frames)
         }

@@ -7,8 +7,8 @@ ghost use Rattle.cards.specs.Faults.{replied};
 ghost use Rattle.cards.specs.LaneViews.{lane_fields};
 ghost use Rattle.shipping.specs.Shipping.{enter_part};
 
-use crate::lane::{find_room, put};
-use backplane::{Backplane, Lane};
+use crate::lane::put;
+use backplane::{Backplane, Lane, Port, find_room};
 use cards::CardFault;
 use frames::{Entry, Frame};
 use logs::entry_at;
@@ -27,6 +27,6 @@ pub(crate) fn send_message<B: Backplane>(
 {
     let entry = entry_at(log, header).ok_or(CardFault::NothingDue)?;
     find_room(backplane, lane, 1)?;
-    put(backplane, lane, Frame::message(entry));
+    put(&mut Port { backplane, lane }, Frame::message(entry));
     Ok(1)
 }

@@ -4,6 +4,7 @@ use Rattle.std.proofs.lemmas.Bool.{eqb-true, and_parts, ltb-false, cond-true, co
 use Rattle.std.proofs.lemmas.List.{length-append, length-map}
 use Rattle.std.proofs.lemmas.Bool.Decides.{nat_tests}
 use Rattle.backplane.specs.Lanes.{Lanes, with_lane}
+use Rattle.backplane.specs.declared.lane.Lane.{Lane}
 use Rattle.frames.specs.Fields.{FrameFields, EntryFields, fields_of}
 use Rattle.frames.specs.declared.entry.Entry.{Entry}
 use Rattle.frames.specs.Carried.{entry_of}
@@ -14,18 +15,18 @@ use Rattle.protocol.specs.declared.card.Card.{Card}
 use Rattle.cards.specs.LaneViews.{lane_fields}
 use Rattle.logs.specs.Log.{log_of}
 use Rattle.logs.proofs.Cuts.{kept_at_most}
-use Rattle.taking.specs.Openings.{InFront}
+use Rattle.taking.specs.Openings.{DiffFront}
 use Rattle.taking.specs.Parts.{take_front}
 use Rattle.taking.specs.Verdicts.{verdict_on}
 use Rattle.taking.specs.declared.diff.OpenedDiff.{OpenedDiff}
 use Rattle.taking.specs.declared.verdict.Verdict.TheVariants.{Pass, Enter}
 use Rattle.taking.proofs.Turns.{diff_judged, take_passes, take_enters, lanes_gone}
 
-module _ (n : ℕ) (L : Lanes) (d : OpenedDiff) (stands : InFront n L d) where
+module _ (at : Lane) (L : Lanes) (d : OpenedDiff) (stands : DiffFront at.from (lane_fields L at.from at.to at.number) d) where
   abbrev lane : List FrameFields
-  lane = lane_fields L d.lane.from d.lane.to d.lane.number
+  lane = lane_fields L at.from at.to at.number
 
-  all_frames : d.entries + 1 ≡ front_size (lane_fields L d.lane.from d.lane.to d.lane.number)
+  all_frames : d.entries + 1 ≡ front_size (lane_fields L at.from at.to at.number)
   all_frames = ap (λ t. t.entries + 1) stands.token ∙ sym (cond-true _ _ _ stands.diff)
 
   module _ (c : Card) (part : List Entry) (used stay : ℕ) (counted : stay ≡ length (kept_up_to d.base (log_of part used))) where
@@ -58,17 +59,17 @@ module _ (n : ℕ) (L : Lanes) (d : OpenedDiff) (stands : InFront n L d) where
 
     pub diff_room : Ok Enter ≡ verdict_on c (fields_of 2 (d.epoch.0, d.epoch.1, 0) (0, 0, 0, 0)) (ltb (length part - stay) d.entries) → length (kept_up_to d.base (log_of part used)) + d.entries ≤ length part
     diff_room e =
-        let fits = ltb-false (length part) (length (log_after lane (log_of part used))) (take_enters (length part) d.lane.to d.lane.from d.lane.number c (log_of part used) (lane_fields L) (e ∙ seen)).0 in
+        let fits = ltb-false (length part) (length (log_after lane (log_of part used))) (take_enters (length part) at.to at.from at.number c (log_of part used) (lane_fields L) (e ∙ seen)).0 in
         omega (arith, fits, log_long, counted)
 
-    module _ (L' : Lanes) (dropped : L' ≡ with_lane L d.lane.from d.lane.to d.lane.number (drop (d.entries + 1) (L d.lane.from d.lane.to d.lane.number))) where
-      pub diff_passed : Ok Pass ≡ verdict_on c (fields_of 2 (d.epoch.0, d.epoch.1, 0) (0, 0, 0, 0)) (ltb (length part - stay) d.entries) → (Ok (Took PassedOver), (c, log_of part used, lane_fields L')) ≡ take_front (length part) d.lane.to d.lane.from d.lane.number (c, log_of part used, lane_fields L)
+    module _ (L' : Lanes) (dropped : L' ≡ with_lane L at.from at.to at.number (drop (d.entries + 1) (L at.from at.to at.number))) where
+      pub diff_passed : Ok Pass ≡ verdict_on c (fields_of 2 (d.epoch.0, d.epoch.1, 0) (0, 0, 0, 0)) (ltb (length part - stay) d.entries) → (Ok (Took PassedOver), (c, log_of part used, lane_fields L')) ≡ take_front (length part) at.to at.from at.number (c, log_of part used, lane_fields L)
       diff_passed e =
-          (λ k. (Ok (Took PassedOver), (c, log_of part used, lanes_gone d.lane.to d.lane.from d.lane.number (d.entries + 1) L L' dropped all_frames k)))
-          ∙ take_passes (length part) d.lane.to d.lane.from d.lane.number c (log_of part used) (lane_fields L) (e ∙ seen)
+          (λ k. (Ok (Took PassedOver), (c, log_of part used, lanes_gone at.to at.from at.number (d.entries + 1) L L' dropped all_frames k)))
+          ∙ take_passes (length part) at.to at.from at.number c (log_of part used) (lane_fields L) (e ∙ seen)
 
-      pub diff_entered : (c' : Card) (log' : List EntryFields) → c' ≡ entered_by d.epoch c → log' ≡ installed_log d.base (map entry_of (take d.entries (drop 1 (lane_fields L d.lane.from d.lane.to d.lane.number)))) (log_of part used) → Ok Enter ≡ verdict_on c (fields_of 2 (d.epoch.0, d.epoch.1, 0) (0, 0, 0, 0)) (ltb (length part - stay) d.entries) → (Ok (Took Installed), (c', log', lane_fields L')) ≡ take_front (length part) d.lane.to d.lane.from d.lane.number (c, log_of part used, lane_fields L)
+      pub diff_entered : (c' : Card) (log' : List EntryFields) → c' ≡ entered_by d.epoch c → log' ≡ installed_log d.base (map entry_of (take d.entries (drop 1 (lane_fields L at.from at.to at.number)))) (log_of part used) → Ok Enter ≡ verdict_on c (fields_of 2 (d.epoch.0, d.epoch.1, 0) (0, 0, 0, 0)) (ltb (length part - stay) d.entries) → (Ok (Took Installed), (c', log', lane_fields L')) ≡ take_front (length part) at.to at.from at.number (c, log_of part used, lane_fields L)
       diff_entered c' log' entered installed e =
           let header : entered_by d.epoch c ≡ taken_by c (front lane) = ap (λ t. entered_by t.epoch c) stands.token ∙ sym (cond-false _ _ _ stands.message) in
-          (λ k. (Ok (Took (sym (cond-false (is_message (front lane)) Appended Installed stands.message) k)), ((entered ∙ header) k, (installed ∙ log_is) k, lanes_gone d.lane.to d.lane.from d.lane.number (d.entries + 1) L L' dropped all_frames k)))
-          ∙ (take_enters (length part) d.lane.to d.lane.from d.lane.number c (log_of part used) (lane_fields L) (e ∙ seen)).1
+          (λ k. (Ok (Took (sym (cond-false (is_message (front lane)) Appended Installed stands.message) k)), ((entered ∙ header) k, (installed ∙ log_is) k, lanes_gone at.to at.from at.number (d.entries + 1) L L' dropped all_frames k)))
+          ∙ (take_enters (length part) at.to at.from at.number c (log_of part used) (lane_fields L) (e ∙ seen)).1

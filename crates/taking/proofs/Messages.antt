@@ -3,7 +3,7 @@ use Rattle.std.proofs.Common.{◌≡◌, ℕ, ◌+◌, ◌<◌, ◌≤◌, eqb, 
 use Rattle.std.proofs.lemmas.Bool.{eqb-true, eqb-false, ne_eqb, cases_lt, cond-true, cond-false}
 use Rattle.std.proofs.lemmas.List.{length_push}
 use Rattle.std.proofs.lemmas.Bool.Decides.{nat_tests}
-use Rattle.backplane.specs.Lanes.{Lanes, is_lane, with_lane}
+use Rattle.backplane.specs.Lanes.{Lanes, with_lane}
 use Rattle.frames.specs.Fields.{EntryFields, fields_of}
 use Rattle.frames.specs.Views.{entry_fields}
 use Rattle.frames.specs.declared.entry.Entry.{Entry}
@@ -23,7 +23,7 @@ use Rattle.taking.specs.Verdicts.{verdict_on}
 use Rattle.taking.specs.declared.verdict.Verdict.TheVariants.{Pass, Enter}
 use Rattle.taking.proofs.Turns.{message_judged, take_passes, take_enters, take_goes_back, lanes_gone}
 
-module _ (n i j l : ℕ) (L : Lanes) (entry : Entry) (stands : MessageFront (is_lane n j i l) j (lane_fields L j i l) entry) where
+module _ (i j l : ℕ) (L : Lanes) (entry : Entry) (stands : MessageFront j (lane_fields L j i l) entry) where
   one_frame : 1 ≡ front_size (lane_fields L j i l)
   one_frame = sym (cond-false _ _ _ (ne_eqb (front (lane_fields L j i l)).kind 2 (λ two. omega (arith, two, eqb-true (front (lane_fields L j i l)).kind 1 stands.message))))
 

@@ -1,5 +1,5 @@
 -- take by what opening the front of the lane answers.
-use Rattle.std.proofs.Common.{◌≡◌, ℕ, Bool, true, false, cond, not, eqb, List, length, Some, None, Err, Option, sym, refl, ap, ◌∙◌, arith}
+use Rattle.std.proofs.Common.{◌≡◌, ℕ, Bool, true, false, cond, not, eqb, List, length, Some, None, Err, Option, sym, ◌∙◌, arith}
 use Rattle.refusals.specs.declared.Refusal.{Refusal}
 use Rattle.refusals.specs.declared.Refusal.TheVariants.{NoSuchCard, Stopped, NothingDue, Malformed}
 use Rattle.backplane.specs.Lanes.{LanesOf, is_lane}
@@ -18,28 +18,16 @@ checked_by stopped is empty made before rest =
     (cond empty (Err NothingDue, before)
     (cond (not made) (Err Malformed, before) rest)))
 
-abbrev unopened_by : Bool → Bool → Bool → Option Refusal
-unopened_by is empty made = cond is (cond empty (Some NothingDue) (cond made None (Some Malformed))) (Some NoSuchCard)
+abbrev unopened_by : Bool → Bool → Option Refusal
+unopened_by empty made = cond empty (Some NothingDue) (cond made None (Some Malformed))
 
-open_by : (is empty made : Bool) (before : Held) (rest : Reply × Held) → unopened_by is empty made ≡ None → rest ≡ checked_by false is empty made before rest
-open_by true true made before rest e = let z : ◌≡◌ {A = ℕ} 0 1 = cc in absurd (omega arith)
-open_by true false true before rest e = refl
-open_by true false false before rest e = let z : ◌≡◌ {A = ℕ} 0 1 = cc in absurd (omega arith)
-open_by false empty made before rest e = let z : ◌≡◌ {A = ℕ} 0 1 = cc in absurd (omega arith)
+shut_by : (empty made : Bool) (before : Held) (rest : Reply × Held) (r : Refusal) → unopened_by empty made ≡ Some r → (Err r, before) ≡ checked_by false true empty made before rest
+shut_by true made before rest r e = let same : r ≡ NothingDue = cc in λ k. (Err (same k), before)
+shut_by false true before rest r e = let z : ◌≡◌ {A = ℕ} 0 1 = cc in absurd (omega arith)
+shut_by false false before rest r e = let same : r ≡ Malformed = cc in λ k. (Err (same k), before)
 
-shut_by : (is empty made : Bool) (before : Held) (rest : Reply × Held) (r : Refusal) → unopened_by is empty made ≡ Some r → (Err r, before) ≡ checked_by false is empty made before rest
-shut_by true true made before rest r e = let same : r ≡ NothingDue = cc in λ k. (Err (same k), before)
-shut_by true false true before rest r e = let z : ◌≡◌ {A = ℕ} 0 1 = cc in absurd (omega arith)
-shut_by true false false before rest r e = let same : r ≡ Malformed = cc in λ k. (Err (same k), before)
-shut_by false empty made before rest r e = let same : r ≡ NoSuchCard = cc in λ k. (Err (same k), before)
-
-module _ (n places i j : ℕ) (c : Card) (log : List EntryFields) (lanes : LanesOf FrameFields) (runs : c.stopped ≡ false) where
-  checked : checked_by false (is_lane n j i 0) (eqb (length (lanes j i 0)) 0) (formed j (lanes j i 0)) (c, log, lanes) (take_front places i j 0 (c, log, lanes)) ≡ take_part n places i j (c, log, lanes)
-  checked = sym (ap (λ b. checked_by b (is_lane n j i 0) (eqb (length (lanes j i 0)) 0) (formed j (lanes j i 0)) (c, log, lanes) (take_front places i j 0 (c, log, lanes))) runs)
-
-  -- what is opened goes on to the checks of the front
-  pub take_goes_on : unopened (is_lane n j i 0) j (lanes j i 0) ≡ None → take_front places i j 0 (c, log, lanes) ≡ take_part n places i j (c, log, lanes)
-  take_goes_on e = open_by (is_lane n j i 0) (eqb (length (lanes j i 0)) 0) (formed j (lanes j i 0)) (c, log, lanes) (take_front places i j 0 (c, log, lanes)) e ∙ checked
-
-  pub take_refused : (r : Refusal) → unopened (is_lane n j i 0) j (lanes j i 0) ≡ Some r → (Err r, (c, log, lanes)) ≡ take_part n places i j (c, log, lanes)
-  take_refused r e = shut_by (is_lane n j i 0) (eqb (length (lanes j i 0)) 0) (formed j (lanes j i 0)) (c, log, lanes) (take_front places i j 0 (c, log, lanes)) r e ∙ checked
+module _ (n places i j : ℕ) (c : Card) (log : List EntryFields) (lanes : LanesOf FrameFields) (runs : c.stopped ≡ false) (is : is_lane n j i 0 ≡ true) where
+  pub take_refused : (r : Refusal) → unopened j (lanes j i 0) ≡ Some r → (Err r, (c, log, lanes)) ≡ take_part n places i j (c, log, lanes)
+  take_refused r e =
+      shut_by (eqb (length (lanes j i 0)) 0) (formed j (lanes j i 0)) (c, log, lanes) (take_front places i j 0 (c, log, lanes)) r e
+      ∙ sym (λ k. checked_by (runs k) (is k) (eqb (length (lanes j i 0)) 0) (formed j (lanes j i 0)) (c, log, lanes) (take_front places i j 0 (c, log, lanes)))

@@ -1,8 +1,8 @@
 -- A diff's entries, looked at one by one.
-use Rattle.std.proofs.Common.{◌≡◌, ℕ, zero, suc, ◌+◌, ◌-◌, ◌<◌, ◌≤◌, Bool, true, false, ◌&&◌, eqb, List, [], ◌∷◌, map, length, get_or, take, drop, sym, refl, ap, ◌∙◌, arith}
+use Rattle.std.proofs.Common.{◌≡◌, ℕ, zero, suc, ◌+◌, ◌-◌, ◌<◌, Bool, true, false, ◌&&◌, eqb, List, [], ◌∷◌, map, length, get_or, take, drop, sym, refl, ap, ◌∙◌, arith}
 use lib.Dec.{eqb-suc-suc}
 use Rattle.std.proofs.lemmas.Bool.{ne_eqb, eqb-true, and_parts}
-use Rattle.std.proofs.lemmas.List.{drop-map, length-take, get_or-take}
+use Rattle.std.proofs.lemmas.List.{drop-map, get_or-take}
 use Rattle.marks.specs.Kinds.{Header}
 use Rattle.marks.specs.Order.{header_below}
 use Rattle.frames.specs.declared.frame.Frame.{Frame}
@@ -61,9 +61,6 @@ rising_kind low high (x ∷ xs) (suc i) d e h =
 module _ (low high : Header) (n : ℕ) (frames : List FrameFields) (whole : whole_behind low high n frames ≡ true) where
   counted : length (take n frames) ≡ n
   counted = eqb-true (length (take n frames)) n (and_parts (eqb (length (take n frames)) n) _ whole).0
-
-  pub whole_there : n ≤ length frames
-  whole_there = omega (arith, counted, length-take n frames)
 
   pub whole_kind : (i : ℕ) (d : FrameFields) → i < n → (get_or frames i d).kind ≡ 3
   whole_kind i d h =

@@ -1,13 +1,11 @@
 // What waits in front of a lane.
 ghost use Rattle.std.specs.Prelude.{◌≡◌, true};
-ghost use Rattle.backplane.specs.Lanes.{is_lane};
 ghost use Rattle.frames.specs.Views.{frame_fields};
 ghost use Rattle.protocol.specs.Taking.{is_diff};
-ghost use Rattle.cards.specs.LaneViews.{lane_fields};
-ghost use Rattle.taking.specs.Openings.{Opens, OpensDiff};
+ghost use Rattle.taking.specs.Openings.{Opens, OpensDiff, lane_of};
 
 use crate::diff::OpenedDiff;
-use backplane::{Backplane, Lane};
+use backplane::{Backplane, Port};
 use cards::CardFault;
 use frames::{Entry, Frame, Kind};
 
@@ -16,12 +14,12 @@ pub(crate) enum Front {
     Diff(OpenedDiff),
 }
 
-fn open_diff<B: Backplane>(backplane: &B, lane: Lane, head: Frame) -> Result<OpenedDiff, CardFault>
+fn open_diff<B: Backplane>(port: &Port<'_, B>, head: Frame) -> Result<OpenedDiff, CardFault>
     requires { is_diff (frame_fields head) ≡ true }
-    ensures { OpensDiff lane (frame_fields head) (lane_fields (B.Backplane.lanes backplane.now) lane.from lane.to lane.number) result }
+    ensures { OpensDiff (frame_fields head) (lane_of port.now) result }
 {
-    let diff = OpenedDiff::of(lane, head);
-    if diff.is_whole(backplane) {
+    let diff = OpenedDiff::of(head);
+    if diff.is_whole(port) {
         Ok(diff)
     } else {
         diff.put_back();
@@ -30,14 +28,14 @@ fn open_diff<B: Backplane>(backplane: &B, lane: Lane, head: Frame) -> Result<Ope
 }
 
 // The message or whole diff in front, if its sender leads its epoch.
-pub(crate) fn open<B: Backplane>(backplane: &B, lane: Lane) -> Result<Front, CardFault>
-    ensures { Opens (is_lane (B.Backplane.count backplane.now) lane.from lane.to lane.number) lane (lane_fields (B.Backplane.lanes backplane.now) lane.from lane.to lane.number) result }
+pub(crate) fn open<B: Backplane>(port: &Port<'_, B>) -> Result<Front, CardFault>
+    ensures { Opens port.now.lane.from (lane_of port.now) result }
 {
-    let frame = backplane.frame_at(lane, 0)?;
+    let frame = port.frame_at(0).ok_or(CardFault::NothingDue)?;
     match frame.kind {
-        _ if frame.leader != lane.from => Err(CardFault::Malformed),
+        _ if frame.leader != port.lane.from => Err(CardFault::Malformed),
         Kind::Message => Ok(Front::Message(frame.entry().unwrap())),
-        Kind::DiffHead => Ok(Front::Diff(open_diff(backplane, lane, frame)?)),
+        Kind::DiffHead => Ok(Front::Diff(open_diff(port, frame)?)),
         _ => Err(CardFault::Malformed),
     }
 }

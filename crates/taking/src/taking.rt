@@ -9,17 +9,19 @@ ghost use Rattle.taking.specs.Parts.{take_part};
 use crate::front::{Front, open};
 use crate::installing::take_diff;
 use crate::message::take_message;
-use backplane::{Backplane, Lane};
+use backplane::{Backplane, Lane, Port};
 use cards::CardFault;
 use logs::Log;
 use protocol::{Card, Intake};
 
 // Takes the first message or whole diff that waits from peer j for card i.
+// Kept: a call's checks stand in it one by one, in the order of its definition. A function for each would take the order out
+// of sight.
+// Kept: two cards and no lane, since that it is lane 0 is the rule's, and not the caller's.
 pub fn take<B: Backplane>(
     card: &mut Card,
     log: &mut Log<'_>,
     backplane: &mut B,
-    // Kept: two cards and no lane, since that it is lane 0 is the rule's, and not the caller's.
     i: u8,
     j: u8,
 ) -> Result<Intake, CardFault>
@@ -37,8 +39,11 @@ pub fn take<B: Backplane>(
         to: i,
         number: 0,
     };
-    match open(backplane, lane)? {
-        Front::Message(entry) => take_message(card, log, backplane, lane, entry),
-        Front::Diff(diff) => take_diff(card, log, backplane, diff),
+    // refuses where there is no such lane
+    backplane.waiting(lane)?;
+    let mut port = Port { backplane, lane };
+    match open(&port)? {
+        Front::Message(entry) => take_message(card, log, &mut port, entry),
+        Front::Diff(diff) => take_diff(card, log, &mut port, diff),
     }
 }

@@ -6,7 +6,7 @@ ghost use Rattle.taking.specs.Verdicts.{verdict_on, unless_full};
 
 use cards::CardFault;
 use frames::Kind;
-use marks::Header;
+use marks::{Header, epoch_of};
 use protocol::Card;
 
 #[derive(Clone, Copy, PartialEq, Eq, Debug)]
@@ -35,15 +35,14 @@ pub(crate) fn decide(
     requires { (kind_number kind == 1 || kind_number kind == 2) ≡ true }
     ensures { result ≡ verdict_on card.now (fields_of (kind_number kind) header (0, 0, 0, 0)) full }
 {
-    let (round, leader, count) = header;
-    let epoch = (round, leader);
+    let epoch = epoch_of(header);
     // Kept: one match over kinds with guards on epoch and count, for messages and diffs, so that the rule stands in one place.
     match kind {
         _ if epoch < card.newest => Ok(Verdict::Pass),
         Kind::Message
             if epoch == card.current
                 && epoch == card.newest
-                && card.accepted.2.checked_add(1) == Some(count) => unless_full(full),
+                && card.accepted.2.checked_add(1) == Some(header.2) => unless_full(full),
         Kind::DiffHead if epoch != card.current => unless_full(full),
         _ => Err(CardFault::OutOfTurn),
     }

@@ -29,7 +29,9 @@ impl FrameBox {
     }
 }
 
-// Kept: two impls, this and that of the rings: a generic `Slotted<S: SlotStore>` would be wrapped here for `new` and the 3 cards of every box, and again there for `over` and `slot_start`, and each wrapper calls its six methods as this one calls the table's.
+// Kept: two impls, this and that of the rings. A generic `Slotted<S: SlotStore>` would be wrapped here for `new` and the 3
+// cards of every box, and again there for `over` and `slot_start`, and each wrapper calls its six methods as this one calls
+// the table's.
 impl Backplane for FrameBox {
     ghost count = { λ s. 3 };
 

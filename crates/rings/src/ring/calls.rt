@@ -15,12 +15,19 @@ use frames::slot::SLOT;
 use refusals::Refusal;
 use ring_table::{RingTable, Shape};
 
+// How many bytes the slots of all lanes take.
+pub fn bytes_for(shape: Shape) -> usize
+    ensures { result ≡ slots_of shape.cards shape.room * 48 }
+{
+    shape.slots() * SLOT
+}
+
 // The shape of rings over a buffer of this length.
 pub fn shape_for(cards: u8, room: usize, len: usize) -> Result<Shape, Refusal>
     ensures { ShapeFor cards room len result }
 {
     let shape = Shape::of(cards, room)?;
-    if len != shape.slots() * SLOT {
+    if len != bytes_for(shape) {
         return Err(Refusal::WrongSize);
     }
     Ok(shape)
@@ -34,7 +41,7 @@ impl<'a> Rings<'a> {
         ensures lanes { rings_lanes result ≡ empty_lanes }
         ensures bytes { rings_bytes result ≡ bytes.old }
     {
-        let cards = if bytes.len() == shape.slots() * SLOT {
+        let cards = if bytes.len() == bytes_for(shape) {
             shape.cards
         } else {
             0
@@ -57,7 +64,8 @@ impl<'a> Rings<'a> {
     }
 }
 
-// Kept: two impls, this and that of the frame box: a generic `Slotted<S: SlotStore>` would be wrapped here for `over` and `slot_start`, and each wrapper calls its six methods as this one calls the table's.
+// Kept: two impls, this and that of the frame box. A generic `Slotted<S: SlotStore>` would be wrapped here for `over` and
+// `slot_start`, and each wrapper calls its six methods as this one calls the table's.
 impl Backplane for Rings<'_> {
     ghost count = { λ s. s.table.shape.cards };
 

@@ -1,5 +1,6 @@
 use Rattle.std.proofs.Common.{◌≡◌, ℕ, ◌+◌, ◌<◌, Some, None, Err, Result, refl, ap, ◌∙◌, rules}
 use Rattle.std.proofs.lemmas.Result.{err_from_is_err_and}
+use Rattle.marks.specs.Kinds.{header_in}
 use Rattle.protocol.specs.Rows.{mark_shipped}
 use Rattle.protocol.specs.Booking.{diff_entries, diff_frames, entry_at, message_frames}
 use Rattle.protocol.specs.declared.answer.Answer.TheVariants.{Count}
@@ -57,4 +58,4 @@ returns-in_ok-frames-in-Some-clause-part g c =
     let row = c.row-row.result in
     let leads = leading card.role c.if-ne.ensures in
     let next : c.in_ok-count-in-Some.count ≡ c.in-Some.shipped + 1 = search rules in
-    ship_done (b.count s) (b.room s) c.args.i c.args.j card (lane_fields (b.lanes s)) log c.if-card.false leads row c.row-row.ensures (Some c.in-Some.shipped) c.in-Some.is (message_frames (entry_at (card.current.0, card.current.1, c.in_ok-count-in-Some.count) log)) (ap (λ m. message_frames (entry_at (card.current.0, card.current.1, m) log)) next) (Count c.in_ok-frames-in-Some.frames) (lane_fields (b.lanes c.send_message.new.backplane)) c.mark_shipped-in-Some.new.self (c.mark_shipped-in-Some.ensures ∙ ap (λ m. mark_shipped card.peers c.args.j (Some m)) next) c.in_ok-frames-in-Some.ensures.part
+    ship_done (b.count s) (b.room s) c.args.i c.args.j card (lane_fields (b.lanes s)) log c.if-card.false leads row c.row-row.ensures (Some c.in-Some.shipped) c.in-Some.is (message_frames (entry_at c.header_in.result log)) (ap (λ h. message_frames (entry_at h log)) (c.header_in.ensures ∙ ap (header_in card.current) next)) (Count c.in_ok-frames-in-Some.frames) (lane_fields (b.lanes c.send_message.new.backplane)) c.mark_shipped-in-Some.new.self (c.mark_shipped-in-Some.ensures ∙ ap (λ m. mark_shipped card.peers c.args.j (Some m)) next) c.in_ok-frames-in-Some.ensures.part

@@ -1,7 +1,6 @@
-use Rattle.std.proofs.Common.{not, sym, refl, ap, ◌∙◌, arith}
+use Rattle.std.proofs.Common.{not, refl, arith}
 use Rattle.std.proofs.lemmas.List.{length-map}
 use Rattle.std.proofs.lemmas.List.Filters.{length-filter_both}
-use Rattle.std.specs.Option.{option_map}
 use Rattle.frames.specs.Fields.{EntryFields}
 use Rattle.frames.specs.Views.{entry_fields}
 use Rattle.protocol.specs.Booking.{inside}

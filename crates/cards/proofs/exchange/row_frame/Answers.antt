@@ -5,7 +5,7 @@ use Rattle.cards.proofs.OwnRow.{own_other}
 use Rattle.cards.proofs.exchange.row_frame.Goals as goal
 
 pub returns-then-kind-eq5 : goal.returns-then-kind-eq5
-returns-then-kind-eq5 c = c.vote_frame.ensures ∙ ap (λ k. frame_from (own_row c.args.card.now k)) (sym c.if-kind-eq5.true)
+returns-then-kind-eq5 c = c.vote_row.ensures ∙ ap (λ k. frame_from (own_row c.args.card.now k)) (sym c.if-kind-eq5.true)
 
 pub returns-then-kind-eq4 : goal.returns-then-kind-eq4
 returns-then-kind-eq4 c = c.of.ensures ∙ ap (λ k. frame_from (own_row c.args.card.now k)) (sym c.if-kind-eq4.true)

@@ -9,5 +9,5 @@ use Rattle.logs.proofs.reads.inside_count.Goals as goal
 
 pub returns : goal.returns
 returns c =
-    let counted : c.count.result ≡ count_by (λ (e : Entry). inside c.args.low c.args.high (entry_fields e)) c.args.log.now = search (rules, chains) in
-    counted ∙ passing_count (inside c.args.low c.args.high) c.args.log.now
+    let counted : c.count.result ≡ count_by (λ (e : Entry). inside c.args.span.low c.args.span.high (entry_fields e)) c.args.log.now = search (rules, chains) in
+    counted ∙ passing_count (inside c.args.span.low c.args.span.high) c.args.log.now

@@ -1,4 +1,5 @@
-use Rattle.std.proofs.Common.{eqb, Ok, Err, sym, ap, ◌∙◌}
+use Rattle.std.proofs.Common.{Ok, Err, sym, ap, ◌∙◌}
+use Rattle.backplane.specs.Ports.{lanes_of}
 use Rattle.frames.specs.Fields.{fields_of}
 use Rattle.protocol.specs.declared.answer.Answer.TheVariants.{Took}
 use Rattle.std.proofs.lemmas.Result.{err_from_is_err_and}
@@ -10,36 +11,32 @@ use Rattle.taking.specs.Verdicts.{verdict_on}
 use Rattle.taking.proofs.Messages.{message_passed, message_room, message_entered, message_back}
 use Rattle.taking.proofs.message.take_message.Goals as goal
 
-pub returns-in_err-decide-clause-part : goal.returns-in_err-decide-clause-part
-returns-in_err-decide-clause-part g c =
-    let s = c.args.backplane.now in
+pub returns-in_err-verdict-clause-part : goal.returns-in_err-verdict-clause-part
+returns-in_err-verdict-clause-part g c =
     let card = c.args.card.now in
     let log = c.args.log.now in
-    let lane = c.args.lane in
-    let L = g.B.Backplane.lanes s in
-    let told = c.in_err-decide.ensures ∙ ap (λ n. verdict_on card (fields_of 1 c.args.entry.header (0, 0, 0, 0)) (eqb log.used n)) c.capacity.ensures in
+    let at = c.args.port.now.lane in
+    let L = lanes_of c.args.port.now in
+    let told = c.in_err-verdict.ensures ∙ ap (verdict_on card (fields_of 1 c.args.entry.header (0, 0, 0, 0))) c.is_full.ensures in
     let p = err_from_is_err_and c.from_residual.result c.from_residual.ensures.1 in
     ap (λ r. (replied Took r, (card, logged log, lane_fields L))) (p.1 ∙ ap Err p.2)
-    ∙ message_back (g.B.Backplane.count s) lane.to lane.from lane.number L c.args.entry c.requires card log.places.now log.used log.fit c.in_err-decide.field-0.0 told
+    ∙ message_back at.to at.from at.number L c.args.entry c.requires card log.places.now log.used log.fit c.in_err-verdict.field-0.0 told
 
 pub returns-in-Pass-clause-part : goal.returns-in-Pass-clause-part
 returns-in-Pass-clause-part g c =
-    let s = c.args.backplane.now in
     let card = c.args.card.now in
     let log = c.args.log.now in
-    let lane = c.args.lane in
-    let told = ap Ok (sym c.in-Pass.is) ∙ c.in_ok-decide.ensures ∙ ap (λ n. verdict_on card (fields_of 1 c.args.entry.header (0, 0, 0, 0)) (eqb log.used n)) c.capacity.ensures in
-    message_passed (g.B.Backplane.count s) lane.to lane.from lane.number (g.B.Backplane.lanes s) c.args.entry c.requires card log.places.now log.used log.fit (g.B.Backplane.lanes c.discard.new.backplane) c.discard.ensures.lanes told
+    let at = c.args.port.now.lane in
+    let told = ap Ok (sym c.in-Pass.is) ∙ c.in_ok-verdict.ensures ∙ ap (verdict_on card (fields_of 1 c.args.entry.header (0, 0, 0, 0))) c.is_full.ensures in
+    message_passed at.to at.from at.number (lanes_of c.args.port.now) c.args.entry c.requires card log.places.now log.used log.fit (lanes_of c.discard.new.port) c.discard.ensures.lanes told
 
 pub returns-in-Enter-clause-part : goal.returns-in-Enter-clause-part
 returns-in-Enter-clause-part g c =
-    let s = c.args.backplane.now in
     let card = c.args.card.now in
     let log = c.args.log.now in
-    let lane = c.args.lane in
-    let n = g.B.Backplane.count s in
-    let L = g.B.Backplane.lanes s in
-    let told = ap Ok (sym c.in-Enter.is) ∙ c.in_ok-decide.ensures ∙ ap (λ n. verdict_on card (fields_of 1 c.args.entry.header (0, 0, 0, 0)) (eqb log.used n)) c.capacity.ensures in
-    let room = message_room n lane.to lane.from lane.number L c.args.entry c.requires card log.places.now log.used log.fit told in
+    let at = c.args.port.now.lane in
+    let L = lanes_of c.args.port.now in
+    let told = ap Ok (sym c.in-Enter.is) ∙ c.in_ok-verdict.ensures ∙ ap (verdict_on card (fields_of 1 c.args.entry.header (0, 0, 0, 0))) c.is_full.ensures in
+    let room = message_room at.to at.from at.number L c.args.entry c.requires card log.places.now log.used log.fit told in
     let more = appended log.places.now c.append.new.self.places.now log.used c.append.new.self.used c.args.entry room c.append.ensures.places c.append.ensures.used in
-    message_entered n lane.to lane.from lane.number L c.args.entry c.requires card log.places.now log.used log.fit (g.B.Backplane.lanes c.discard-in-Enter.new.backplane) c.discard-in-Enter.ensures.lanes c.accept.new.self (logged c.append.new.self) c.accept.ensures more told
+    message_entered at.to at.from at.number L c.args.entry c.requires card log.places.now log.used log.fit (lanes_of c.discard.new.port) c.discard.ensures.lanes c.accept.new.self (logged c.append.new.self) c.accept.ensures more told

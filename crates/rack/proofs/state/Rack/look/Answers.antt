@@ -1,5 +1,5 @@
-use Rattle.std.proofs.Common.{◌≡◌, ℕ, ◌-◌, ◌≤◌, true, false, leb, [], get_or, Ok, Err, sym, refl, ◌∙◌, subst, length-set}
-use Rattle.std.proofs.lemmas.Bool.{and_from, le-leb, eq-eqb}
+use Rattle.std.proofs.Common.{◌≡◌, ℕ, ◌-◌, ◌≤◌, true, false, [], get_or, Ok, Err, sym, refl, ◌∙◌, subst, length-set}
+use Rattle.std.proofs.lemmas.Bool.{eq-eqb}
 use Rattle.protocol.specs.Rack.{no_peer, is_row_kind, opened_card}
 use Rattle.protocol.specs.declared.card.Role.TheVariants.{Electing}
 use Rattle.protocol.specs.declared.answer.Answer.TheVariants.{Done}
@@ -34,7 +34,7 @@ invariant_of-self g c =
     let seat = get_or r.seats (i - 1) zeroed in
     let pair : Pair r i j seat = record { card = named.card; peer = named.peer; apart = named.apart; here = named.here; found = seat_found r i seat named.card (seat_read r i zeroed named.card) } in
     let wide : b.count at ≡ card_count r.size = sym c.cards.ensures ∙ c.if-cards.false ∙ c.cards-2.ensures in
-    let is : is_row_kind kind ≡ true = and_from (leb 4 kind) (leb kind 6) (le-leb 4 kind c.if-kind-lt4.false) (le-leb kind 6 c.if-kind-gt6.false) in
+    let is : is_row_kind kind ≡ true = sym c.is_row_kind.ensures ∙ c.if-not-is_row_kind.false in
     let sound = look_sound r i j kind (b.room at) [] (λ _. tt {0}) (b.lanes at) seat pair is (b.count at) wide (replied (λ _. Done) c.look.result) c.look.new.card (b.lanes c.look.new.backplane) c.look.ensures.part in
     let left : Seat = record { card = c.look.new.card; used = seat.used } in
     record {
@@ -56,7 +56,7 @@ returns-in_err-look g c =
     let seat = get_or r.seats (i - 1) zeroed in
     let pair : Pair r i j seat = record { card = named.card; peer = named.peer; apart = named.apart; here = named.here; found = seat_found r i seat named.card (seat_read r i zeroed named.card) } in
     let wide : b.count at ≡ card_count r.size = sym c.cards.ensures ∙ c.if-cards.false ∙ c.cards-2.ensures in
-    let is : is_row_kind kind ≡ true = and_from (leb 4 kind) (leb kind 6) (le-leb 4 kind c.if-kind-lt4.false) (le-leb kind 6 c.if-kind-gt6.false) in
+    let is : is_row_kind kind ≡ true = sym c.is_row_kind.ensures ∙ c.if-not-is_row_kind.false in
     let f = c.in_err-look.field-0.0 in
     let reply = told_card (λ _. Done) c.from_residual-in_err-look.result f c.from_residual-in_err-look.ensures.1 in
     let part = c.in_err-look.ensures in
@@ -82,7 +82,7 @@ returns g c =
     let seat = get_or r.seats (i - 1) zeroed in
     let pair : Pair r i j seat = record { card = named.card; peer = named.peer; apart = named.apart; here = named.here; found = seat_found r i seat named.card (seat_read r i zeroed named.card) } in
     let wide : b.count at ≡ card_count r.size = sym c.cards.ensures ∙ c.if-cards.false ∙ c.cards-2.ensures in
-    let is : is_row_kind kind ≡ true = and_from (leb 4 kind) (leb kind 6) (le-leb 4 kind c.if-kind-lt4.false) (le-leb kind 6 c.if-kind-gt6.false) in
+    let is : is_row_kind kind ≡ true = sym c.is_row_kind.ensures ∙ c.if-not-is_row_kind.false in
     let part = c.in_ok-look.ensures in
     record {
       step = λ entries.

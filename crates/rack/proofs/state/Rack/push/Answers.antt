@@ -1,5 +1,5 @@
-use Rattle.std.proofs.Common.{◌≡◌, true, leb, Ok, Err, sym, ◌∙◌}
-use Rattle.std.proofs.lemmas.Bool.{and_from, le-leb, eq-eqb}
+use Rattle.std.proofs.Common.{◌≡◌, true, Ok, Err, sym, ◌∙◌}
+use Rattle.std.proofs.lemmas.Bool.{eq-eqb}
 use Rattle.protocol.specs.Rack.{no_peer, is_row_kind}
 use Rattle.protocol.specs.declared.answer.Answer.TheVariants.{Done}
 use Rattle.cards.specs.Faults.{card_refusal}
@@ -22,7 +22,7 @@ returns-in_err-push g c =
     let pair = paired r i j seat c.in_ok-seat.ensures.value in
     let wide : b.count at ≡ card_count r.size = sym c.cards.ensures ∙ c.if-cards.false ∙ c.cards-2.ensures in
     let kind = c.args.kind in
-    let is : is_row_kind kind ≡ true = and_from (leb 4 kind) (leb kind 6) (le-leb 4 kind c.if-kind-lt4.false) (le-leb kind 6 c.if-kind-gt6.false) in
+    let is : is_row_kind kind ≡ true = sym c.is_row_kind.ensures ∙ c.if-not-is_row_kind.false in
     let f = c.in_err-push.field-0.0 in
     let reply = told_card (λ _. Done) c.from_residual-in_err-push.result f c.from_residual-in_err-push.ensures.1 in
     let part = c.in_err-push.ensures in
@@ -46,7 +46,7 @@ returns g c =
     let pair = paired r i j seat c.in_ok-seat.ensures.value in
     let wide : b.count at ≡ card_count r.size = sym c.cards.ensures ∙ c.if-cards.false ∙ c.cards-2.ensures in
     let kind = c.args.kind in
-    let is : is_row_kind kind ≡ true = and_from (leb 4 kind) (leb kind 6) (le-leb 4 kind c.if-kind-lt4.false) (le-leb kind 6 c.if-kind-gt6.false) in
+    let is : is_row_kind kind ≡ true = sym c.is_row_kind.ensures ∙ c.if-not-is_row_kind.false in
     let part = c.in_ok-push.ensures in
     record {
       step = λ entries.

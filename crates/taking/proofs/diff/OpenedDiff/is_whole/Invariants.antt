@@ -1,9 +1,9 @@
 use Rattle.std.proofs.Common.{◌≡◌, ◌+◌, ◌-◌, drop}
-use Rattle.cards.specs.LaneViews.{lane_fields}
+use Rattle.taking.specs.Openings.{lane_of}
 use Rattle.taking.specs.Wholes.{whole_behind}
 use Rattle.taking.proofs.diff.OpenedDiff.is_whole.Given as goal
 
 abbrev pub invariant-loop-index : goal.invariant-loop-index
 invariant-loop-index g l =
-    let lane = lane_fields (g.B.Backplane.lanes l.backplane) l.self.lane.from l.self.lane.to l.self.lane.number in
+    let lane = lane_of l.port in
     whole_behind l.low l.high (l.self.entries - l.index) (drop (l.index + 1) lane) ≡ whole_behind l.self.base l.high l.self.entries (drop 1 lane)

@@ -1,0 +1,20 @@
+// The headers between two others.
+ghost use Rattle.std.specs.Prelude.{◌≡◌, ◌&&◌};
+ghost use Rattle.marks.specs.Order.{header_below};
+
+use crate::Header;
+
+#[derive(Clone, Copy, PartialEq, Eq, Debug)]
+pub struct Span {
+    pub low: Header,
+    pub high: Header,
+}
+
+impl Span {
+    // Whether a header is above `low` and below `high`.
+    pub fn holds(self, header: Header) -> bool
+        ensures { result ≡ (header_below self.low header && header_below header self.high) }
+    {
+        self.low < header && header < self.high
+    }
+}
