@@ -1,0 +1,98 @@
+use crate::scripts::Stored;
+
+pub(crate) const SCRIPT: Stored = Stored {
+    rack: "machine=board",
+    lines: "timeout 1
+push 1 2 5
+look 2 1 5
+elect 2
+push 2 1 5
+look 1 2 5
+win 1
+submit 1 4 7 1 42
+ship 1 2
+take 2 1
+ship 1 2
+take 2 1
+stop 1
+timeout 3
+push 3 2 5
+look 2 3 5
+elect 2
+show 2
+push 2 3 5
+look 3 2 5
+elect 3
+push 3 2 5
+look 2 3 5
+win 2
+ship 2 3
+take 3 2
+push 3 2 4
+look 2 3 4
+commit 2
+push 2 3 6
+look 3 2 6
+commit 3
+show 2
+show 3
+",
+    prints: "ok 0 1
+ok
+ok
+ok 2
+ok
+ok
+ok 0 1
+ok 0 1 1
+ok 1
+ok 2
+ok 1
+ok 1
+ok
+ok 0 3
+ok
+ok
+no 5
+card 2: follower
+  epoch 0.1, new epoch 0.1, vote 0.1 with 0.0.0
+  accepted 0.1.1, committed 0.0.0, next 0.1.0
+  peer 1: nothing shipped; accept 0.0.0, vote 0.1 with 0.0.0, commit 0.0.0
+  peer 3: nothing shipped; accept 0.0.0, vote 0.3 with 0.0.0, commit 0.0.0
+  log: 1 of 16 places
+    0.1.1 queue 4: book load 7 for carrier 42
+  board: every load is open
+ok
+ok
+ok 0
+ok
+ok
+no 5
+no 5
+no 6
+ok
+ok
+no 6
+no 6
+no 6
+no 5
+card 2: follower
+  epoch 0.1, new epoch 0.1, vote 0.1 with 0.0.0
+  accepted 0.1.1, committed 0.0.0, next 0.1.0
+  peer 1: nothing shipped; accept 0.0.0, vote 0.1 with 0.0.0, commit 0.0.0
+  peer 3: nothing shipped; accept 0.0.0, vote 0.3 with 0.0.0, commit 0.0.0
+  log: 1 of 16 places
+    0.1.1 queue 4: book load 7 for carrier 42
+  board: every load is open
+card 3: electing
+  epoch 0.0, new epoch 0.3, vote 0.3 with 0.0.0
+  accepted 0.0.0, committed 0.0.0, next 0.0.0
+  peer 1: nothing shipped; accept 0.0.0, vote 0.0 with 0.0.0, commit 0.0.0
+  peer 2: nothing shipped; accept 0.0.0, vote 0.1 with 0.0.0, commit 0.0.0
+  log: 0 of 16 places
+  board: every load is open
+card 1
+card 2
+card 3
+",
+};
