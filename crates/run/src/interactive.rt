@@ -15,6 +15,8 @@ impl Work for Script<'_> {
     // Each line of the input in turn.
     fn work<B: Backplane, M: Told>(self, table: &mut Table<'_, B, M>) -> io::Result<()> {
         let rt = self.rt;
+        // Kept: each program that reads lines has this loop. One function for all would be handed a closure, and a public
+        // function that is handed one has a premise, that it can be called; none here has a premise.
         for line in BufReader::new(rt.alloc(), rt.stdin())?.lines(rt.alloc()) {
             match line {
                 Ok(text) => {

@@ -1,7 +1,6 @@
 // Runs a rack by a script, a line a call, and prints each answer; at the end, what each card has delivered.
 #![tactic(auto)]
 
-mod choice;
 mod interactive;
 mod line;
 mod opened;
@@ -9,24 +8,25 @@ mod payloads;
 mod said;
 #[cfg(test)]
 mod scripts;
+mod setup;
 mod table;
 #[cfg(test)]
 mod tests;
 mod view;
 
-use choice::Choice;
 use interactive::Script;
 use opened::on_rack;
+use setup::Setup;
 use std::process::ExitCode;
 use std::{env, io};
 
 // The rack that the arguments name; none, and a message, where one of them names nothing.
-fn chosen(rt: &HostRuntime) -> io::Result<Option<Choice>> {
-    let mut choice = Choice::usual();
+fn chosen(rt: &HostRuntime) -> io::Result<Option<Setup>> {
+    let mut setup = Setup::usual();
     for argument in env::args(rt)?.skip(1) {
         let text = argument.as_str();
-        match choice.with(text) {
-            Some(other) => choice = other,
+        match setup.with(text) {
+            Some(other) => setup = other,
             None => {
                 eprintln!(rt;
                     "run: {text} names nothing (cards=N, places=N, room=N, backplane=rings|box, machine=ledger|board)"
@@ -35,14 +35,14 @@ fn chosen(rt: &HostRuntime) -> io::Result<Option<Choice>> {
             }
         }
     }
-    Ok(Some(choice))
+    Ok(Some(setup))
 }
 
 fn start(rt: &HostRuntime) -> io::Result<ExitCode> {
-    let Some(choice) = chosen(rt)? else {
+    let Some(setup) = chosen(rt)? else {
         return Ok(ExitCode::from(2));
     };
-    match on_rack(rt.alloc(), choice, Script { rt })? {
+    match on_rack(rt.alloc(), setup, Script { rt })? {
         Ok(()) => Ok(ExitCode::SUCCESS),
         Err(refusal) => {
             let number = refusal.number();

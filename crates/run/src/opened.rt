@@ -1,6 +1,6 @@
 // What is to be done with a rack, on the one that is chosen.
-use crate::choice::{Choice, Machines, Store};
 use crate::payloads::Told;
+use crate::setup::{Machines, Setup, Store};
 use crate::table::Table;
 use backplane::Backplane;
 use board::Board;
@@ -21,11 +21,11 @@ pub(crate) trait Work: Drop {
 
 fn over<B: Backplane, M: Told, W: Work>(
     heap: Global,
-    choice: Choice,
+    setup: Setup,
     backplane: &mut B,
     work: W,
 ) -> io::Result<Result<(), Refusal>> {
-    match Table::<B, M>::open(heap, choice.cards, choice.places, backplane)? {
+    match Table::<B, M>::open(heap, setup.cards, setup.places, backplane)? {
         Ok(mut table) => Ok(Ok(work.work(&mut table)?)),
         Err(refusal) => Ok(Err(refusal)),
     }
@@ -33,36 +33,37 @@ fn over<B: Backplane, M: Told, W: Work>(
 
 fn with_machines<B: Backplane, W: Work>(
     heap: Global,
-    choice: Choice,
+    setup: Setup,
     backplane: &mut B,
     work: W,
 ) -> io::Result<Result<(), Refusal>> {
-    match choice.machines {
-        Machines::Ledgers => over::<B, Ledger, W>(heap, choice, backplane, work),
-        Machines::Boards => over::<B, Board, W>(heap, choice, backplane, work),
+    match setup.machines {
+        Machines::Ledgers => over::<B, Ledger, W>(heap, setup, backplane, work),
+        Machines::Boards => over::<B, Board, W>(heap, setup, backplane, work),
     }
 }
 
 // Opens the rack, over memory of its own, and does the work on it; refused where its sizes are.
 pub(crate) fn on_rack<W: Work>(
     heap: Global,
-    choice: Choice,
+    setup: Setup,
     work: W,
 ) -> io::Result<Result<(), Refusal>> {
-    match choice.store {
+    match setup.store {
         Store::FrameBox => {
             let mut frames = FrameBox::new();
-            if choice.room.is_some_and(|room| room != frames.capacity()) {
+            if setup.room.is_some_and(|room| room != frames.capacity()) {
                 return Ok(Err(Refusal::WrongSize));
             }
-            with_machines(heap, choice, &mut frames, work)
+            with_machines(heap, setup, &mut frames, work)
         }
-        Store::Rings => match Shape::of(choice.cards, choice.room.unwrap_or(ROOM)) {
+        Store::Rings => match Shape::of(setup.cards, setup.room.unwrap_or(ROOM)) {
+            // Kept: `lane_desk` and `booking` lend bytes in the same way; `lane_desk` says why.
             Ok(shape) => {
                 let mut bytes = vec![in heap; 0u8; bytes_for(shape)]?;
                 with_machines(
                     heap,
-                    choice,
+                    setup,
                     &mut Rings::over(bytes.as_mut_slice(), shape),
                     work,
                 )

@@ -1,5 +1,6 @@
 // What is printed of a reply, of a line that asks nothing, and of what a card has delivered.
 use crate::payloads::Told;
+use crate::view::At;
 use frames::Entry;
 use play::Reply;
 use std::alloc::{AllocError, Global};
@@ -31,8 +32,8 @@ impl fmt::Display for Delivered<'_> {
         let card = self.card;
         write!(f, "card {card}")?;
         for entry in self.entries {
-            let (round, leader, count) = entry.header;
-            write!(f, " {round}.{leader}.{count}")?;
+            let header = At(entry.header);
+            write!(f, " {header}")?;
         }
         Ok(())
     }

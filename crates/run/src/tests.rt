@@ -1,8 +1,8 @@
 // Stored scripts print what is stored.
-use crate::choice::Choice;
 use crate::opened::{Work, on_rack};
 use crate::payloads::Told;
 use crate::scripts::{ALL, Stored};
+use crate::setup::Setup;
 use crate::table::Table;
 use backplane::Backplane;
 use std::alloc::Global;
@@ -47,10 +47,10 @@ impl Work for Case {
 
 // Whether a script prints what is stored.
 fn prints(heap: Global, stored: Stored) -> bool {
-    let mut choice = Choice::usual();
+    let mut setup = Setup::usual();
     for argument in stored.rack.split_whitespace() {
-        match choice.with(argument) {
-            Some(other) => choice = other,
+        match setup.with(argument) {
+            Some(other) => setup = other,
             None => return false,
         }
     }
@@ -59,7 +59,7 @@ fn prints(heap: Global, stored: Stored) -> bool {
         lines: stored.lines,
         prints: stored.prints,
     };
-    matches!(on_rack(heap, choice, case), Ok(Ok(())))
+    matches!(on_rack(heap, setup, case), Ok(Ok(())))
 }
 
 #[test]

@@ -18,8 +18,9 @@ pub(crate) struct View<'a, M: Told> {
 #[derive(Clone, Copy)]
 struct InEpoch(Epoch);
 
+// A header with dots.
 #[derive(Clone, Copy)]
-struct At(Header);
+pub(crate) struct At(pub(crate) Header);
 
 #[derive(Clone, Copy)]
 struct Voted(Vote);

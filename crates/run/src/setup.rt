@@ -14,7 +14,7 @@ pub(crate) enum Machines {
 }
 
 #[derive(Clone, Copy, PartialEq, Eq, Debug)]
-pub(crate) struct Choice {
+pub(crate) struct Setup {
     pub cards: u8,
     // of each log
     pub places: usize,
@@ -24,10 +24,10 @@ pub(crate) struct Choice {
     pub machines: Machines,
 }
 
-impl Choice {
+impl Setup {
     // What stands where nothing is said.
-    pub(crate) fn usual() -> Choice {
-        Choice {
+    pub(crate) fn usual() -> Setup {
+        Setup {
             cards: 3,
             places: 16,
             room: None,
@@ -37,34 +37,34 @@ impl Choice {
     }
 
     // The same with what an argument names; none where it names nothing. A size that no type holds becomes one that is refused.
-    pub(crate) fn with(self, argument: &str) -> Option<Choice> {
+    pub(crate) fn with(self, argument: &str) -> Option<Setup> {
         let (name, value) = argument.split_once("=")?;
         match (name, value) {
-            ("cards", value) => Some(Choice {
+            ("cards", value) => Some(Setup {
                 cards: u8::try_from(number(value)?).unwrap_or(0),
                 ..self
             }),
-            ("places", value) => Some(Choice {
+            ("places", value) => Some(Setup {
                 places: usize::try_from(number(value)?).unwrap_or(0),
                 ..self
             }),
-            ("room", value) => Some(Choice {
+            ("room", value) => Some(Setup {
                 room: Some(usize::try_from(number(value)?).unwrap_or(0)),
                 ..self
             }),
-            ("backplane", "rings") => Some(Choice {
+            ("backplane", "rings") => Some(Setup {
                 store: Store::Rings,
                 ..self
             }),
-            ("backplane", "box") => Some(Choice {
+            ("backplane", "box") => Some(Setup {
                 store: Store::FrameBox,
                 ..self
             }),
-            ("machine", "ledger") => Some(Choice {
+            ("machine", "ledger") => Some(Setup {
                 machines: Machines::Ledgers,
                 ..self
             }),
-            ("machine", "board") => Some(Choice {
+            ("machine", "board") => Some(Setup {
                 machines: Machines::Boards,
                 ..self
             }),
