@@ -1,7 +1,8 @@
-// Scripts of calls, and what they must print: `mixed` calls of every kind at random; `refusals` each refusal of each call in its
-// order; `rows_of_old_epochs` rows of an earlier epoch that do not count, and a message of an old leader that is passed over;
-// `empty_diff` an empty diff under which an entry goes that reached nobody; `longer_log` a card that has accepted more and
-// stands itself; `full_log` logs and lanes that are full; `lines_of_text` lines that are no calls.
+// Scripts of calls, and what they must print: `mixed` calls of every kind at random; `refusals` each refusal of each call that
+// calls alone can bring about, in its order; `rows_of_old_epochs` rows of another epoch, or of a card that does not lead, which
+// do not count, and messages and a diff of an old leader that are passed over; `empty_diff` an empty diff under which an entry
+// goes that reached nobody; `longer_log` a card that has accepted more and stands itself until the others join it; `full_log`
+// a full log, and a diff that is longer than a lane; `lines_of_text` lines that are no calls.
 mod empty_diff_3_board;
 mod empty_diff_5;
 mod empty_diff_7_board;

@@ -20,21 +20,52 @@ push 4 1 5
 look 1 4 5
 win 1
 submit 1 4 7 1 42
+submit 1 4 8 1 43
 ship 1 2
 take 2 1
 ship 1 2
 take 2 1
+ship 1 2
+take 2 1
+ship 1 3
+take 3 1
+ship 1 3
+take 3 1
 stop 1
+elect 2
+timeout 2
+show 2
+timeout 3
 timeout 7
+timeout 7
+push 7 6 5
+look 6 7 5
+elect 6
+push 6 7 5
+look 7 6 5
+show 6
 push 7 2 5
 look 2 7 5
 elect 2
 show 2
-push 2 7 5
-look 7 2 5
-elect 7
-push 7 2 5
-look 2 7 5
+elect 2
+win 2
+push 7 3 5
+look 3 7 5
+elect 3
+push 2 6 5
+look 6 2 5
+push 3 6 5
+look 6 3 5
+elect 6
+show 6
+push 2 3 5
+look 3 2 5
+elect 3
+push 3 2 5
+look 2 3 5
+elect 2
+show 2
 win 2
 push 2 3 5
 look 3 2 5
@@ -42,32 +73,27 @@ elect 3
 push 3 2 5
 look 2 3 5
 win 2
-push 2 4 5
-look 4 2 5
-elect 4
-push 4 2 5
-look 2 4 5
+push 2 6 5
+look 6 2 5
+elect 6
+push 6 2 5
+look 2 6 5
 win 2
-push 2 5 5
-look 5 2 5
-elect 5
-push 5 2 5
-look 2 5 5
+push 2 7 5
+look 7 2 5
+elect 7
+push 7 2 5
+look 2 7 5
+show 3
 win 2
+win 7
+show 2
 ship 2 3
+show 2
 take 3 2
+show 3
 push 3 2 4
 look 2 3 4
-commit 2
-ship 2 4
-take 4 2
-push 4 2 4
-look 2 4 4
-commit 2
-ship 2 5
-take 5 2
-push 5 2 4
-look 2 5 4
 commit 2
 ship 2 6
 take 6 2
@@ -79,11 +105,28 @@ take 7 2
 push 7 2 4
 look 2 7 4
 commit 2
-push 2 7 6
-look 7 2 6
-commit 7
+submit 2 4 7 2 42
+ship 2 3
+take 3 2
+push 3 2 4
+look 2 3 4
+ship 2 6
+take 6 2
+push 6 2 4
+look 2 6 4
+ship 2 7
+take 7 2
+push 7 2 4
+look 2 7 4
+commit 2
+commit 2
+push 2 3 6
+look 3 2 6
+commit 3
+commit 3
+commit 3
 show 2
-show 7
+show 3
 ",
     prints: "ok 0 1
 ok
@@ -103,105 +146,245 @@ ok
 ok
 ok 0 1
 ok 0 1 1
+ok 0 1 2
+ok 1
+ok 2
+ok 1
+ok 1
+ok 1
+ok 1
 ok 1
 ok 2
 ok 1
 ok 1
 ok
-ok 0 7
-ok
-ok
 no 5
-card 2: follower
-  epoch 0.1, new epoch 0.1, vote 0.1 with 0.0.0
-  accepted 0.1.1, committed 0.0.0, next 0.1.0
+ok 0 2
+card 2: electing
+  epoch 0.1, new epoch 0.2, vote 0.2 with 0.1.2
+  accepted 0.1.2, committed 0.0.0, next 0.1.0
   peer 1: nothing shipped; accept 0.0.0, vote 0.1 with 0.0.0, commit 0.0.0
   peer 3: nothing shipped; accept 0.0.0, vote 0.0 with 0.0.0, commit 0.0.0
   peer 4: nothing shipped; accept 0.0.0, vote 0.0 with 0.0.0, commit 0.0.0
   peer 5: nothing shipped; accept 0.0.0, vote 0.0 with 0.0.0, commit 0.0.0
   peer 6: nothing shipped; accept 0.0.0, vote 0.0 with 0.0.0, commit 0.0.0
-  peer 7: nothing shipped; accept 0.0.0, vote 0.7 with 0.0.0, commit 0.0.0
-  log: 1 of 16 places
+  peer 7: nothing shipped; accept 0.0.0, vote 0.0 with 0.0.0, commit 0.0.0
+  log: 2 of 16 places
     0.1.1 queue 4: book load 7 for carrier 42
+    0.1.2 queue 4: book load 8 for carrier 43
   board: every load is open
-ok
-ok
-ok 0
-ok
-ok
-no 5
-ok
-ok
-ok 0
-ok
-ok
-no 5
-ok
-ok
-ok 0
-ok
-ok
-no 5
+ok 0 3
+ok 0 7
+ok 1 7
 ok
 ok
 ok 2
 ok
 ok
-no 5
-no 5
-no 6
-ok
-ok
-no 6
-no 5
-no 6
-ok
-ok
-no 6
-no 5
-no 6
-ok
-ok
-no 6
-no 5
-no 6
-ok
-ok
-no 6
-no 5
-no 6
-ok
-ok
-no 6
-no 6
-no 6
-no 5
-card 2: follower
-  epoch 0.1, new epoch 0.1, vote 0.1 with 0.0.0
-  accepted 0.1.1, committed 0.0.0, next 0.1.0
-  peer 1: nothing shipped; accept 0.0.0, vote 0.1 with 0.0.0, commit 0.0.0
-  peer 3: nothing shipped; accept 0.0.0, vote 0.1 with 0.0.0, commit 0.0.0
-  peer 4: nothing shipped; accept 0.0.0, vote 0.1 with 0.0.0, commit 0.0.0
-  peer 5: nothing shipped; accept 0.0.0, vote 0.1 with 0.0.0, commit 0.0.0
-  peer 6: nothing shipped; accept 0.0.0, vote 0.0 with 0.0.0, commit 0.0.0
-  peer 7: nothing shipped; accept 0.0.0, vote 0.7 with 0.0.0, commit 0.0.0
-  log: 1 of 16 places
-    0.1.1 queue 4: book load 7 for carrier 42
-  board: every load is open
-card 7: electing
-  epoch 0.0, new epoch 0.7, vote 0.7 with 0.0.0
+card 6: electing
+  epoch 0.0, new epoch 1.7, vote 1.7 with 0.0.0
   accepted 0.0.0, committed 0.0.0, next 0.0.0
   peer 1: nothing shipped; accept 0.0.0, vote 0.0 with 0.0.0, commit 0.0.0
-  peer 2: nothing shipped; accept 0.0.0, vote 0.1 with 0.0.0, commit 0.0.0
+  peer 2: nothing shipped; accept 0.0.0, vote 0.0 with 0.0.0, commit 0.0.0
+  peer 3: nothing shipped; accept 0.0.0, vote 0.0 with 0.0.0, commit 0.0.0
+  peer 4: nothing shipped; accept 0.0.0, vote 0.0 with 0.0.0, commit 0.0.0
+  peer 5: nothing shipped; accept 0.0.0, vote 0.0 with 0.0.0, commit 0.0.0
+  peer 7: nothing shipped; accept 0.0.0, vote 1.7 with 0.0.0, commit 0.0.0
+  log: 0 of 16 places
+  board: every load is open
+ok
+ok
+ok 1
+card 2: electing
+  epoch 0.1, new epoch 2.2, vote 2.2 with 0.1.2
+  accepted 0.1.2, committed 0.0.0, next 0.1.0
+  peer 1: nothing shipped; accept 0.0.0, vote 0.1 with 0.0.0, commit 0.0.0
   peer 3: nothing shipped; accept 0.0.0, vote 0.0 with 0.0.0, commit 0.0.0
   peer 4: nothing shipped; accept 0.0.0, vote 0.0 with 0.0.0, commit 0.0.0
   peer 5: nothing shipped; accept 0.0.0, vote 0.0 with 0.0.0, commit 0.0.0
   peer 6: nothing shipped; accept 0.0.0, vote 0.0 with 0.0.0, commit 0.0.0
+  peer 7: nothing shipped; accept 0.0.0, vote 1.7 with 0.0.0, commit 0.0.0
+  log: 2 of 16 places
+    0.1.1 queue 4: book load 7 for carrier 42
+    0.1.2 queue 4: book load 8 for carrier 43
+  board: every load is open
+ok 0
+no 7
+ok
+ok
+ok 1
+ok
+ok
+ok
+ok
+ok 2
+card 6: electing
+  epoch 0.0, new epoch 2.3, vote 2.3 with 0.1.1
+  accepted 0.0.0, committed 0.0.0, next 0.0.0
+  peer 1: nothing shipped; accept 0.0.0, vote 0.0 with 0.0.0, commit 0.0.0
+  peer 2: nothing shipped; accept 0.0.0, vote 2.2 with 0.1.2, commit 0.0.0
+  peer 3: nothing shipped; accept 0.0.0, vote 2.3 with 0.1.1, commit 0.0.0
+  peer 4: nothing shipped; accept 0.0.0, vote 0.0 with 0.0.0, commit 0.0.0
+  peer 5: nothing shipped; accept 0.0.0, vote 0.0 with 0.0.0, commit 0.0.0
+  peer 7: nothing shipped; accept 0.0.0, vote 1.7 with 0.0.0, commit 0.0.0
   log: 0 of 16 places
   board: every load is open
+ok
+ok
+ok 0
+ok
+ok
+ok 1
+card 2: electing
+  epoch 0.1, new epoch 3.2, vote 3.2 with 0.1.2
+  accepted 0.1.2, committed 0.0.0, next 0.1.0
+  peer 1: nothing shipped; accept 0.0.0, vote 0.1 with 0.0.0, commit 0.0.0
+  peer 3: nothing shipped; accept 0.0.0, vote 2.3 with 0.1.1, commit 0.0.0
+  peer 4: nothing shipped; accept 0.0.0, vote 0.0 with 0.0.0, commit 0.0.0
+  peer 5: nothing shipped; accept 0.0.0, vote 0.0 with 0.0.0, commit 0.0.0
+  peer 6: nothing shipped; accept 0.0.0, vote 0.0 with 0.0.0, commit 0.0.0
+  peer 7: nothing shipped; accept 0.0.0, vote 1.7 with 0.0.0, commit 0.0.0
+  log: 2 of 16 places
+    0.1.1 queue 4: book load 7 for carrier 42
+    0.1.2 queue 4: book load 8 for carrier 43
+  board: every load is open
+no 7
+ok
+ok
+ok 2
+ok
+ok
+no 7
+ok
+ok
+ok 2
+ok
+ok
+no 7
+ok
+ok
+ok 2
+ok
+ok
+card 3: electing
+  epoch 0.1, new epoch 3.2, vote 3.2 with 0.1.2
+  accepted 0.1.1, committed 0.0.0, next 0.1.0
+  peer 1: nothing shipped; accept 0.0.0, vote 0.1 with 0.0.0, commit 0.0.0
+  peer 2: nothing shipped; accept 0.0.0, vote 3.2 with 0.1.2, commit 0.0.0
+  peer 4: nothing shipped; accept 0.0.0, vote 0.0 with 0.0.0, commit 0.0.0
+  peer 5: nothing shipped; accept 0.0.0, vote 0.0 with 0.0.0, commit 0.0.0
+  peer 6: nothing shipped; accept 0.0.0, vote 0.0 with 0.0.0, commit 0.0.0
+  peer 7: nothing shipped; accept 0.0.0, vote 1.7 with 0.0.0, commit 0.0.0
+  log: 1 of 16 places
+    0.1.1 queue 4: book load 7 for carrier 42
+  board: every load is open
+ok 3 2
+no 7
+card 2: leader
+  epoch 3.2, new epoch 3.2, vote 3.2 with 0.1.2
+  accepted 3.2.0, committed 0.0.0, next 3.2.0
+  peer 1: nothing shipped; accept 0.0.0, vote 0.1 with 0.0.0, commit 0.0.0
+  peer 3: nothing shipped; accept 0.0.0, vote 3.2 with 0.1.2, commit 0.0.0
+  peer 4: nothing shipped; accept 0.0.0, vote 0.0 with 0.0.0, commit 0.0.0
+  peer 5: nothing shipped; accept 0.0.0, vote 0.0 with 0.0.0, commit 0.0.0
+  peer 6: nothing shipped; accept 0.0.0, vote 3.2 with 0.1.2, commit 0.0.0
+  peer 7: nothing shipped; accept 0.0.0, vote 3.2 with 0.1.2, commit 0.0.0
+  log: 2 of 16 places
+    0.1.1 queue 4: book load 7 for carrier 42
+    0.1.2 queue 4: book load 8 for carrier 43
+  board: every load is open
+ok 3
+card 2: leader
+  epoch 3.2, new epoch 3.2, vote 3.2 with 0.1.2
+  accepted 3.2.0, committed 0.0.0, next 3.2.0
+  peer 1: nothing shipped; accept 0.0.0, vote 0.1 with 0.0.0, commit 0.0.0
+  peer 3: shipped the diff; accept 0.0.0, vote 3.2 with 0.1.2, commit 0.0.0
+  peer 4: nothing shipped; accept 0.0.0, vote 0.0 with 0.0.0, commit 0.0.0
+  peer 5: nothing shipped; accept 0.0.0, vote 0.0 with 0.0.0, commit 0.0.0
+  peer 6: nothing shipped; accept 0.0.0, vote 3.2 with 0.1.2, commit 0.0.0
+  peer 7: nothing shipped; accept 0.0.0, vote 3.2 with 0.1.2, commit 0.0.0
+  log: 2 of 16 places
+    0.1.1 queue 4: book load 7 for carrier 42
+    0.1.2 queue 4: book load 8 for carrier 43
+  board: every load is open
+ok 2
+card 3: follower
+  epoch 3.2, new epoch 3.2, vote 3.2 with 0.1.2
+  accepted 3.2.0, committed 0.0.0, next 3.2.0
+  peer 1: nothing shipped; accept 0.0.0, vote 0.1 with 0.0.0, commit 0.0.0
+  peer 2: nothing shipped; accept 0.0.0, vote 3.2 with 0.1.2, commit 0.0.0
+  peer 4: nothing shipped; accept 0.0.0, vote 0.0 with 0.0.0, commit 0.0.0
+  peer 5: nothing shipped; accept 0.0.0, vote 0.0 with 0.0.0, commit 0.0.0
+  peer 6: nothing shipped; accept 0.0.0, vote 0.0 with 0.0.0, commit 0.0.0
+  peer 7: nothing shipped; accept 0.0.0, vote 1.7 with 0.0.0, commit 0.0.0
+  log: 2 of 16 places
+    0.1.1 queue 4: book load 7 for carrier 42
+    0.1.2 queue 4: book load 8 for carrier 43
+  board: every load is open
+ok
+ok
+no 6
+ok 3
+ok 2
+ok
+ok
+no 6
+ok 3
+ok 2
+ok
+ok
+ok 2
+ok 3 2 1
+ok 1
+ok 1
+ok
+ok
+ok 1
+ok 1
+ok
+ok
+ok 1
+ok 1
+ok
+ok
+ok 1
+no 6
+ok
+ok
+ok 2
+ok 1
+no 6
+card 2: leader
+  epoch 3.2, new epoch 3.2, vote 3.2 with 0.1.2
+  accepted 3.2.1, committed 3.2.1, next 3.2.2
+  peer 1: nothing shipped; accept 0.0.0, vote 0.1 with 0.0.0, commit 0.0.0
+  peer 3: shipped up to 1; accept 3.2.1, vote 3.2 with 0.1.2, commit 0.0.0
+  peer 4: nothing shipped; accept 0.0.0, vote 0.0 with 0.0.0, commit 0.0.0
+  peer 5: nothing shipped; accept 0.0.0, vote 0.0 with 0.0.0, commit 0.0.0
+  peer 6: shipped up to 1; accept 3.2.1, vote 3.2 with 0.1.2, commit 0.0.0
+  peer 7: shipped up to 1; accept 3.2.1, vote 3.2 with 0.1.2, commit 0.0.0
+  log: 3 of 16 places
+    0.1.1 queue 4: book load 7 for carrier 42
+    0.1.2 queue 4: book load 8 for carrier 43
+    3.2.1 queue 4: release load 7 by carrier 42
+  board: load 8 held by carrier 43
+card 3: follower
+  epoch 3.2, new epoch 3.2, vote 3.2 with 0.1.2
+  accepted 3.2.1, committed 3.2.1, next 3.2.2
+  peer 1: nothing shipped; accept 0.0.0, vote 0.1 with 0.0.0, commit 0.0.0
+  peer 2: nothing shipped; accept 0.0.0, vote 3.2 with 0.1.2, commit 3.2.1
+  peer 4: nothing shipped; accept 0.0.0, vote 0.0 with 0.0.0, commit 0.0.0
+  peer 5: nothing shipped; accept 0.0.0, vote 0.0 with 0.0.0, commit 0.0.0
+  peer 6: nothing shipped; accept 0.0.0, vote 0.0 with 0.0.0, commit 0.0.0
+  peer 7: nothing shipped; accept 0.0.0, vote 1.7 with 0.0.0, commit 0.0.0
+  log: 3 of 16 places
+    0.1.1 queue 4: book load 7 for carrier 42
+    0.1.2 queue 4: book load 8 for carrier 43
+    3.2.1 queue 4: release load 7 by carrier 42
+  board: load 8 held by carrier 43
 card 1
-card 2
-card 3
+card 2 0.1.1 0.1.2 3.2.1
+card 3 0.1.1 0.1.2 3.2.1
 card 4
 card 5
 card 6

@@ -1,14 +1,15 @@
 use crate::scripts::Stored;
 
 pub(crate) const SCRIPT: Stored = Stored {
-    rack: "",
+    rack: "places=8 room=8",
     lines: "timeout 0
 elect 0
 win 0
 commit 0
 stop 0
-submit 0 99 32 0
-submit 0 4 32 0
+show 0
+submit 0 99 32 1
+submit 0 4 32 1
 submit 0 4 2 -500
 ship 0 1
 take 0 1
@@ -23,8 +24,9 @@ elect 256
 win 256
 commit 256
 stop 256
-submit 256 99 32 0
-submit 256 4 32 0
+show 256
+submit 256 99 32 1
+submit 256 4 32 1
 submit 256 4 2 -500
 ship 256 1
 take 256 1
@@ -39,8 +41,9 @@ elect -1
 win -1
 commit -1
 stop -1
-submit -1 99 32 0
-submit -1 4 32 0
+show -1
+submit -1 99 32 1
+submit -1 4 32 1
 submit -1 4 2 -500
 ship -1 1
 take -1 1
@@ -55,8 +58,9 @@ elect 99999999999999999999999999
 win 99999999999999999999999999
 commit 99999999999999999999999999
 stop 99999999999999999999999999
-submit 99999999999999999999999999 99 32 0
-submit 99999999999999999999999999 4 32 0
+show 99999999999999999999999999
+submit 99999999999999999999999999 99 32 1
+submit 99999999999999999999999999 4 32 1
 submit 99999999999999999999999999 4 2 -500
 ship 99999999999999999999999999 1
 take 99999999999999999999999999 1
@@ -71,8 +75,9 @@ elect 4
 win 4
 commit 4
 stop 4
-submit 4 99 32 0
-submit 4 4 32 0
+show 4
+submit 4 99 32 1
+submit 4 4 32 1
 submit 4 4 2 -500
 ship 4 1
 take 4 1
@@ -105,14 +110,13 @@ look 1 2 4294967300
 submit 1 16 2 -500
 submit 1 256 2 -500
 submit 1 -1 2 -500
-submit 1 4 32 0
-submit 1 4 -1 0
+submit 1 18446744073709551616 2 -500
+submit 1 4 32 1
+submit 1 4 -1 1
 submit 1 4 0 2147483648
 submit 1 4 0 -2147483649
-submit 1 4 99999999999999999999 1
-submit 1 15 31 2147483647
-submit 1 15 0 -2147483648
-submit 1 0 2 -500
+submit 1 4 0 99999999999999999999
+submit 1 15 2 -500
 ship 1 2
 commit 1
 take 1 2
@@ -121,80 +125,142 @@ look 1 2 5
 look 1 2 6
 win 1
 elect 1
-win 1
+push 3 2 4
+push 3 2 4
+push 3 2 4
+push 3 2 4
+push 3 2 4
+push 3 2 4
+push 3 2 4
+push 3 2 4
+push 3 2 4
+push 3 2 5
+push 3 2 5
+push 3 2 5
+push 3 2 5
+push 3 2 5
+push 3 2 5
+push 3 2 5
+push 3 2 5
+push 3 2 5
+push 3 1 6
+push 3 1 6
+push 3 1 6
+push 3 1 6
+push 3 1 6
+push 3 1 6
+push 3 1 6
+push 3 1 6
+push 3 1 6
 timeout 1
+win 1
 win 1
 push 1 2 5
 look 2 1 5
 elect 2
-win 2
 push 2 1 5
 look 1 2 5
+win 2
 win 1
 win 1
 elect 1
 push 1 2 6
-commit 1
 take 1 2
-submit 1 4 2 -500
-submit 1 15 31 2147483647
-submit 1 15 0 -2147483648
 commit 1
-ship 1 2
-ship 1 2
-ship 1 2
-ship 1 2
+submit 1 4 2 -500
+submit 1 15 3 500
+submit 1 0 2 250
+submit 1 4 31 1
+submit 1 4 5 70
+submit 1 4 6 80
+submit 1 4 7 90
+ship 1 3
+ship 1 3
+ship 1 3
+ship 1 3
+ship 1 3
+ship 1 3
+ship 1 3
+ship 1 3
+ship 1 3
+submit 1 4 8 100
+ship 1 3
+submit 1 4 9 110
+submit 1 16 2 -500
+show 1
+take 3 1
+take 3 1
+ship 1 3
+ship 1 3
+elect 3
+win 3
+submit 3 4 2 -500
+submit 3 16 2 -500
+ship 3 1
+commit 3
+push 3 1 6
 ship 1 2
 take 2 1
-elect 2
-win 2
+ship 1 2
+take 2 1
+ship 1 2
+take 2 1
+ship 1 2
+take 2 1
+ship 1 2
+take 2 1
+ship 1 2
+take 2 1
+ship 1 2
+take 2 1
+ship 1 2
+take 2 1
+ship 1 2
+take 2 1
+ship 1 2
+take 2 1
 submit 2 4 2 -500
-ship 2 1
-commit 2
-take 2 1
-take 2 1
-take 2 1
-take 2 1
+commit 1
 push 2 1 4
 look 1 2 4
 commit 1
 commit 1
 commit 1
 commit 1
+push 1 3 6
+look 3 1 6
+commit 3
+commit 3
+commit 3
 push 1 2 6
 look 2 1 6
 commit 2
 commit 2
-commit 2
-commit 2
-commit 2
-push 1 2 4
-push 1 2 4
-push 1 2 4
-push 1 2 4
-push 1 2 4
-push 1 2 4
-push 1 2 4
-push 1 2 4
-push 1 2 4
-push 1 2 4
-push 1 2 4
-push 1 2 4
-push 1 2 4
-push 1 2 4
-push 1 2 4
-push 1 2 4
-push 1 2 4
-push 1 2 4
-push 1 2 4
-push 1 2 4
-push 1 2 4
-push 1 2 4
-look 2 1 4
-push 1 2 4
-push 1 2 4
+timeout 1
+submit 1 4 2 -500
+ship 1 2
+commit 1
+push 1 2 6
+elect 2
 timeout 2
-show 2
+push 1 2 5
+look 2 1 5
+elect 2
+push 2 1 5
+look 1 2 5
+win 1
+submit 1 4 2 -500
+push 1 2 6
+commit 1
+ship 1 2
+look 1 2 6
+push 2 1 6
+look 1 2 6
+ship 1 2
+ship 1 2
+ship 1 3
+take 2 1
+show 1
 stop 2
 stop 2
 timeout 2
@@ -203,7 +269,7 @@ win 2
 commit 2
 submit 2 4 2 -500
 submit 2 16 2 -500
-submit 2 4 32 0
+submit 2 4 32 1
 ship 2 1
 take 2 1
 push 2 1 4
@@ -213,6 +279,13 @@ look 2 1 7
 push 2 2 4
 ship 2 2
 show 2
+stop 1
+submit 1 4 2 -500
+ship 1 2
+ship 1 3
+commit 1
+take 3 1
+take 3 1
 ",
     prints: "no 1
 no 1
@@ -300,6 +373,11 @@ no 1
 no 1
 no 1
 no 1
+no 1
+no 1
+no 1
+no 1
+no 1
 no 3
 no 3
 no 3
@@ -322,8 +400,7 @@ no 3
 no 3
 no 3
 no 3
-no 5
-no 5
+no 3
 no 5
 no 5
 no 5
@@ -333,15 +410,42 @@ no 6
 no 6
 no 7
 ok 0
-no 7
+ok
+ok
+ok
+ok
+ok
+ok
+ok
+ok
+no 11
+ok
+ok
+ok
+ok
+ok
+ok
+ok
+ok
+no 11
+ok
+ok
+ok
+ok
+ok
+ok
+ok
+ok
+no 11
 ok 0 1
+no 7
 no 7
 ok
 ok
 ok 2
+ok
+ok
 no 7
-ok
-ok
 ok 0 1
 no 5
 no 5
@@ -351,21 +455,70 @@ no 6
 ok 0 1 1
 ok 0 1 2
 ok 0 1 3
-no 6
+ok 0 1 4
+ok 0 1 5
+ok 0 1 6
+ok 0 1 7
+ok 1
+ok 1
+ok 1
+ok 1
 ok 1
 ok 1
 ok 1
 ok 1
 no 6
+ok 0 1 8
+no 11
+no 10
+no 3
+card 1: leader
+  epoch 0.1, new epoch 0.1, vote 0.1 with 0.0.0
+  accepted 0.1.8, committed 0.0.0, next 0.1.0
+  peer 2: nothing shipped; accept 0.0.0, vote 0.1 with 0.0.0, commit 0.0.0
+  peer 3: shipped up to 7; accept 0.0.0, vote 0.0 with 0.0.0, commit 0.0.0
+  log: 8 of 8 places
+    0.1.1 queue 4: post -500 cents to carrier 2
+    0.1.2 queue 15: post 500 cents to carrier 3
+    0.1.3 queue 0: post 250 cents to carrier 2
+    0.1.4 queue 4: post 1 cents to carrier 31
+    0.1.5 queue 4: post 70 cents to carrier 5
+    0.1.6 queue 4: post 80 cents to carrier 6
+    0.1.7 queue 4: post 90 cents to carrier 7
+    0.1.8 queue 4: post 100 cents to carrier 8
+  ledger: every balance is 0
 ok 2
+ok 1
+ok 1
+no 6
 no 5
 no 5
 no 5
+no 3
 no 5
 no 6
+no 6
+ok 1
+ok 2
 ok 1
 ok 1
 ok 1
+ok 1
+ok 1
+ok 1
+ok 1
+ok 1
+ok 1
+ok 1
+ok 1
+ok 1
+ok 1
+ok 1
+ok 1
+ok 1
+no 6
+no 6
+no 5
 no 6
 ok
 ok
@@ -377,45 +530,50 @@ ok
 ok
 ok 0
 ok 1
-ok 1
-ok 1
 no 6
 ok
 ok
+ok 0
+ok 1
+ok 1 1
+no 5
+no 5
+no 5
 ok
-ok
-ok
-ok
-ok
-ok
-ok
-ok
-ok
-ok
-ok
-ok
-ok
-ok
-ok
-ok
-ok
-ok
-no 11
-no 11
-ok
-ok
-no 11
+no 5
 ok 0 2
-card 2: electing
-  epoch 0.1, new epoch 0.2, vote 0.2 with 0.1.3
-  accepted 0.1.3, committed 0.1.3, next 0.1.4
-  peer 1: nothing shipped; accept 0.1.3, vote 0.1 with 0.0.0, commit 0.1.3
+ok
+ok
+ok 2
+ok
+ok
+ok 1 1
+no 10
+no 6
+no 6
+no 11
+no 6
+ok
+ok
+ok 8
+no 6
+no 11
+ok 2
+card 1: leader
+  epoch 1.1, new epoch 1.1, vote 1.1 with 0.1.8
+  accepted 1.1.0, committed 0.1.3, next 1.1.0
+  peer 2: shipped the diff; accept 0.1.8, vote 1.1 with 0.1.8, commit 0.1.1
   peer 3: nothing shipped; accept 0.0.0, vote 0.0 with 0.0.0, commit 0.0.0
-  log: 3 of 16 places
+  log: 8 of 8 places
     0.1.1 queue 4: post -500 cents to carrier 2
-    0.1.2 queue 15: post 2147483647 cents to carrier 31
-    0.1.3 queue 15: post -2147483648 cents to carrier 0
-  ledger: carrier 0 at -2147483648 cents carrier 2 at -500 cents carrier 31 at 2147483647 cents
+    0.1.2 queue 15: post 500 cents to carrier 3
+    0.1.3 queue 0: post 250 cents to carrier 2
+    0.1.4 queue 4: post 1 cents to carrier 31
+    0.1.5 queue 4: post 70 cents to carrier 5
+    0.1.6 queue 4: post 80 cents to carrier 6
+    0.1.7 queue 4: post 90 cents to carrier 7
+    0.1.8 queue 4: post 100 cents to carrier 8
+  ledger: carrier 2 at -250 cents carrier 3 at 500 cents
 ok
 no 4
 no 4
@@ -433,18 +591,30 @@ no 4
 no 3
 no 1
 no 1
-card 2: electing, stopped
-  epoch 0.1, new epoch 0.2, vote 0.2 with 0.1.3
-  accepted 0.1.3, committed 0.1.3, next 0.1.4
-  peer 1: nothing shipped; accept 0.1.3, vote 0.1 with 0.0.0, commit 0.1.3
+card 2: follower, stopped
+  epoch 1.1, new epoch 1.1, vote 1.1 with 0.1.8
+  accepted 1.1.0, committed 0.1.1, next 1.1.0
+  peer 1: nothing shipped; accept 0.0.0, vote 1.1 with 0.1.8, commit 0.1.3
   peer 3: nothing shipped; accept 0.0.0, vote 0.0 with 0.0.0, commit 0.0.0
-  log: 3 of 16 places
+  log: 8 of 8 places
     0.1.1 queue 4: post -500 cents to carrier 2
-    0.1.2 queue 15: post 2147483647 cents to carrier 31
-    0.1.3 queue 15: post -2147483648 cents to carrier 0
-  ledger: carrier 0 at -2147483648 cents carrier 2 at -500 cents carrier 31 at 2147483647 cents
+    0.1.2 queue 15: post 500 cents to carrier 3
+    0.1.3 queue 0: post 250 cents to carrier 2
+    0.1.4 queue 4: post 1 cents to carrier 31
+    0.1.5 queue 4: post 70 cents to carrier 5
+    0.1.6 queue 4: post 80 cents to carrier 6
+    0.1.7 queue 4: post 90 cents to carrier 7
+    0.1.8 queue 4: post 100 cents to carrier 8
+  ledger: carrier 2 at -500 cents
+ok
+no 4
+no 4
+no 4
+no 4
+ok 1
+ok 1
 card 1 0.1.1 0.1.2 0.1.3
-card 2 0.1.1 0.1.2 0.1.3
-card 3
+card 2 0.1.1
+card 3 0.1.1
 ",
 };

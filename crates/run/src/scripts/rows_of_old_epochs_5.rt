@@ -39,21 +39,48 @@ push 3 1 4
 look 1 3 4
 commit 1
 commit 1
+push 1 2 6
+look 2 1 6
+commit 2
+commit 2
+push 2 1 6
+look 1 2 6
 timeout 1
+elect 2
+timeout 2
 push 1 2 5
 look 2 1 5
 elect 2
 push 2 1 5
 look 1 2 5
+elect 3
+timeout 3
 push 1 3 5
 look 3 1 5
 elect 3
 push 3 1 5
 look 1 3 5
 win 1
-submit 1 4 2 -500
-commit 1
 show 1
+commit 1
+submit 1 4 31 1
+commit 1
+push 1 2 6
+ship 1 2
+take 2 1
+ship 1 3
+take 3 1
+show 2
+commit 2
+commit 1
+push 2 1 4
+look 1 2 4
+commit 1
+push 3 1 4
+look 1 3 4
+commit 1
+push 1 2 6
+commit 1
 ship 1 2
 take 2 1
 push 2 1 4
@@ -64,14 +91,86 @@ take 3 1
 push 3 1 4
 look 1 3 4
 commit 1
-commit 1
+push 1 3 6
+look 3 1 6
+commit 3
+commit 3
+push 3 2 6
+look 2 3 6
+commit 2
+push 1 2 6
+look 2 1 6
+commit 2
+commit 2
+commit 2
+submit 1 4 5 70
+submit 1 4 6 80
 ship 1 2
-timeout 5
-push 5 2 5
-look 2 5 5
+ship 1 2
+ship 1 4
+timeout 3
+timeout 2
+push 3 2 5
+look 2 3 5
 elect 2
+push 2 3 5
+look 3 2 5
+push 3 4 5
+look 4 3 5
+elect 4
+push 4 3 5
+look 3 4 5
+take 4 1
+show 4
+take 4 1
+show 2
 take 2 1
 show 2
+take 2 1
+take 2 1
+win 3
+ship 3 2
+take 2 3
+push 2 1 4
+look 1 2 4
+ship 3 4
+take 4 3
+push 4 1 4
+look 1 4 4
+push 3 1 4
+look 1 3 4
+show 1
+commit 1
+commit 2
+ship 3 1
+take 1 3
+show 1
+ship 1 2
+commit 1
+commit 3
+push 2 3 4
+look 3 2 4
+commit 3
+push 4 3 4
+look 3 4 4
+commit 3
+commit 3
+timeout 1
+timeout 1
+timeout 2
+push 1 2 5
+look 2 1 5
+elect 2
+push 2 1 5
+look 1 2 5
+timeout 4
+push 1 4 5
+look 4 1 5
+elect 4
+push 4 1 5
+look 1 4 5
+win 1
+show 1
 ",
     prints: "ok 0 1
 ok
@@ -110,25 +209,33 @@ ok
 ok
 ok 0
 ok 1
+ok
+ok
+ok 0
+ok 1
+ok
+ok
 ok 1 1
+no 5
+ok 0 2
+ok
+ok
+ok 2
 ok
 ok
 no 5
+ok 0 3
 ok
 ok
+ok 2
 ok
 ok
-no 5
-ok
-ok
-no 7
-no 5
-no 5
-card 1: electing
-  epoch 0.1, new epoch 1.1, vote 1.1 with 0.1.3
-  accepted 0.1.3, committed 0.1.1, next 0.1.2
-  peer 2: shipped up to 3; accept 0.1.3, vote 0.1 with 0.0.0, commit 0.0.0
-  peer 3: shipped up to 3; accept 0.1.3, vote 0.1 with 0.0.0, commit 0.0.0
+ok 1 1
+card 1: leader
+  epoch 1.1, new epoch 1.1, vote 1.1 with 0.1.3
+  accepted 1.1.0, committed 0.1.1, next 1.1.0
+  peer 2: nothing shipped; accept 0.1.3, vote 1.1 with 0.1.3, commit 0.1.1
+  peer 3: nothing shipped; accept 0.1.3, vote 1.1 with 0.1.3, commit 0.0.0
   peer 4: nothing shipped; accept 0.0.0, vote 0.0 with 0.0.0, commit 0.0.0
   peer 5: nothing shipped; accept 0.0.0, vote 0.0 with 0.0.0, commit 0.0.0
   log: 3 of 16 places
@@ -136,38 +243,199 @@ card 1: electing
     0.1.2 queue 4: post 500 cents to carrier 3
     0.1.3 queue 4: post 250 cents to carrier 2
   ledger: carrier 2 at -500 cents
-no 5
 no 6
-ok
-ok
-no 5
-no 5
+ok 1 1 1
 no 6
-ok
-ok
-no 5
-no 5
-no 5
-ok 0 5
-ok
-ok
-no 5
 no 6
+ok 3
+ok 2
+ok 4
+ok 2
 card 2: follower
-  epoch 0.1, new epoch 0.1, vote 0.1 with 0.0.0
-  accepted 0.1.3, committed 0.0.0, next 0.1.0
-  peer 1: nothing shipped; accept 0.0.0, vote 1.1 with 0.1.3, commit 0.0.0
+  epoch 1.1, new epoch 1.1, vote 1.1 with 0.1.3
+  accepted 1.1.0, committed 0.1.1, next 1.1.0
+  peer 1: nothing shipped; accept 0.0.0, vote 1.1 with 0.1.3, commit 0.1.1
   peer 3: nothing shipped; accept 0.0.0, vote 0.0 with 0.0.0, commit 0.0.0
   peer 4: nothing shipped; accept 0.0.0, vote 0.0 with 0.0.0, commit 0.0.0
-  peer 5: nothing shipped; accept 0.0.0, vote 0.5 with 0.0.0, commit 0.0.0
+  peer 5: nothing shipped; accept 0.0.0, vote 0.0 with 0.0.0, commit 0.0.0
   log: 3 of 16 places
     0.1.1 queue 4: post -500 cents to carrier 2
     0.1.2 queue 4: post 500 cents to carrier 3
     0.1.3 queue 4: post 250 cents to carrier 2
+  ledger: carrier 2 at -500 cents
+no 6
+no 6
+ok
+ok
+no 6
+ok
+ok
+ok 2
+no 6
+no 6
+ok 1
+ok 1
+ok
+ok
+no 6
+ok 1
+ok 1
+ok
+ok
+ok 1
+ok
+ok
+ok 3
+ok 1
+ok
+ok
+no 6
+ok
+ok
+ok 2
+ok 1
+no 6
+ok 1 1 2
+ok 1 1 3
+ok 1
+ok 1
+ok 4
+ok 1 3
+ok 1 2
+ok
+ok
+ok 2
+ok
+ok
+ok
+ok
+ok 2
+ok
+ok
+ok 0
+card 4: electing
+  epoch 0.0, new epoch 1.3, vote 1.3 with 1.1.1
+  accepted 0.0.0, committed 0.0.0, next 0.0.0
+  peer 1: nothing shipped; accept 0.0.0, vote 0.0 with 0.0.0, commit 0.0.0
+  peer 2: nothing shipped; accept 0.0.0, vote 0.0 with 0.0.0, commit 0.0.0
+  peer 3: nothing shipped; accept 0.0.0, vote 1.3 with 1.1.1, commit 0.0.0
+  peer 5: nothing shipped; accept 0.0.0, vote 0.0 with 0.0.0, commit 0.0.0
+  log: 0 of 16 places
   ledger: every balance is 0
-card 1 0.1.1
-card 2
-card 3
+no 6
+card 2: electing
+  epoch 1.1, new epoch 1.3, vote 1.3 with 1.1.1
+  accepted 1.1.1, committed 1.1.1, next 1.1.2
+  peer 1: nothing shipped; accept 0.0.0, vote 1.1 with 0.1.3, commit 1.1.1
+  peer 3: nothing shipped; accept 0.0.0, vote 1.3 with 1.1.1, commit 1.1.1
+  peer 4: nothing shipped; accept 0.0.0, vote 0.0 with 0.0.0, commit 0.0.0
+  peer 5: nothing shipped; accept 0.0.0, vote 0.0 with 0.0.0, commit 0.0.0
+  log: 4 of 16 places
+    0.1.1 queue 4: post -500 cents to carrier 2
+    0.1.2 queue 4: post 500 cents to carrier 3
+    0.1.3 queue 4: post 250 cents to carrier 2
+    1.1.1 queue 4: post 1 cents to carrier 31
+  ledger: carrier 2 at -250 cents carrier 3 at 500 cents carrier 31 at 1 cents
+ok 0
+card 2: electing
+  epoch 1.1, new epoch 1.3, vote 1.3 with 1.1.1
+  accepted 1.1.1, committed 1.1.1, next 1.1.2
+  peer 1: nothing shipped; accept 0.0.0, vote 1.1 with 0.1.3, commit 1.1.1
+  peer 3: nothing shipped; accept 0.0.0, vote 1.3 with 1.1.1, commit 1.1.1
+  peer 4: nothing shipped; accept 0.0.0, vote 0.0 with 0.0.0, commit 0.0.0
+  peer 5: nothing shipped; accept 0.0.0, vote 0.0 with 0.0.0, commit 0.0.0
+  log: 4 of 16 places
+    0.1.1 queue 4: post -500 cents to carrier 2
+    0.1.2 queue 4: post 500 cents to carrier 3
+    0.1.3 queue 4: post 250 cents to carrier 2
+    1.1.1 queue 4: post 1 cents to carrier 31
+  ledger: carrier 2 at -250 cents carrier 3 at 500 cents carrier 31 at 1 cents
+ok 0
+no 6
+ok 1 3
+ok 5
+ok 2
+ok
+ok
+ok 5
+ok 2
+ok
+ok
+ok
+ok
+card 1: leader
+  epoch 1.1, new epoch 1.1, vote 1.1 with 0.1.3
+  accepted 1.1.3, committed 1.1.1, next 1.1.2
+  peer 2: shipped up to 3; accept 1.3.0, vote 1.1 with 0.1.3, commit 0.1.1
+  peer 3: shipped up to 1; accept 1.3.0, vote 1.1 with 0.1.3, commit 0.0.0
+  peer 4: shipped the diff; accept 1.3.0, vote 0.0 with 0.0.0, commit 0.0.0
+  peer 5: nothing shipped; accept 0.0.0, vote 0.0 with 0.0.0, commit 0.0.0
+  log: 6 of 16 places
+    0.1.1 queue 4: post -500 cents to carrier 2
+    0.1.2 queue 4: post 500 cents to carrier 3
+    0.1.3 queue 4: post 250 cents to carrier 2
+    1.1.1 queue 4: post 1 cents to carrier 31
+    1.1.2 queue 4: post 70 cents to carrier 5
+    1.1.3 queue 4: post 80 cents to carrier 6
+  ledger: carrier 2 at -250 cents carrier 3 at 500 cents carrier 31 at 1 cents
+no 6
+no 6
+ok 1
+ok 2
+card 1: follower
+  epoch 1.3, new epoch 1.3, vote 1.1 with 0.1.3
+  accepted 1.3.0, committed 1.1.1, next 1.3.0
+  peer 2: shipped up to 3; accept 1.3.0, vote 1.1 with 0.1.3, commit 0.1.1
+  peer 3: shipped up to 1; accept 1.3.0, vote 1.1 with 0.1.3, commit 0.0.0
+  peer 4: shipped the diff; accept 1.3.0, vote 0.0 with 0.0.0, commit 0.0.0
+  peer 5: nothing shipped; accept 0.0.0, vote 0.0 with 0.0.0, commit 0.0.0
+  log: 4 of 16 places
+    0.1.1 queue 4: post -500 cents to carrier 2
+    0.1.2 queue 4: post 500 cents to carrier 3
+    0.1.3 queue 4: post 250 cents to carrier 2
+    1.1.1 queue 4: post 1 cents to carrier 31
+  ledger: carrier 2 at -250 cents carrier 3 at 500 cents carrier 31 at 1 cents
+no 5
+no 6
+no 6
+ok
+ok
+no 6
+ok
+ok
+ok 0
+no 6
+ok 2 1
+ok 3 1
+ok 2 2
+ok
+ok
+ok 2
+ok
+ok
+ok 1 4
+ok
+ok
+ok 2
+ok
+ok
+ok 3 1
+card 1: leader
+  epoch 3.1, new epoch 3.1, vote 3.1 with 1.3.0
+  accepted 3.1.0, committed 1.1.1, next 3.1.0
+  peer 2: nothing shipped; accept 1.3.0, vote 3.1 with 1.3.0, commit 0.1.1
+  peer 3: nothing shipped; accept 1.3.0, vote 1.1 with 0.1.3, commit 0.0.0
+  peer 4: nothing shipped; accept 1.3.0, vote 3.1 with 1.3.0, commit 0.0.0
+  peer 5: nothing shipped; accept 0.0.0, vote 0.0 with 0.0.0, commit 0.0.0
+  log: 4 of 16 places
+    0.1.1 queue 4: post -500 cents to carrier 2
+    0.1.2 queue 4: post 500 cents to carrier 3
+    0.1.3 queue 4: post 250 cents to carrier 2
+    1.1.1 queue 4: post 1 cents to carrier 31
+  ledger: carrier 2 at -250 cents carrier 3 at 500 cents carrier 31 at 1 cents
+card 1 0.1.1 0.1.2 0.1.3 1.1.1
+card 2 0.1.1 0.1.2 0.1.3 1.1.1
+card 3 0.1.1 0.1.2 0.1.3 1.1.1
 card 4
 card 5
 ",

@@ -20,7 +20,7 @@ push 4 1 5
 look 1 4 5
 win 1
 submit 1 4 7 1 42
-submit 1 4 7 1 43
+submit 1 4 8 1 43
 submit 1 4 7 2 42
 ship 1 2
 take 2 1
@@ -54,26 +54,60 @@ push 4 1 4
 look 1 4 4
 commit 1
 commit 1
+push 1 2 6
+look 2 1 6
+commit 2
+commit 2
+push 2 1 6
+look 1 2 6
 timeout 1
+elect 2
+timeout 2
 push 1 2 5
 look 2 1 5
 elect 2
 push 2 1 5
 look 1 2 5
+elect 3
+timeout 3
 push 1 3 5
 look 3 1 5
 elect 3
 push 3 1 5
 look 1 3 5
+elect 4
+timeout 4
 push 1 4 5
 look 4 1 5
 elect 4
 push 4 1 5
 look 1 4 5
 win 1
-submit 1 4 7 1 42
-commit 1
 show 1
+commit 1
+submit 1 4 7 1 44
+commit 1
+push 1 2 6
+ship 1 2
+take 2 1
+ship 1 3
+take 3 1
+ship 1 4
+take 4 1
+show 2
+commit 2
+commit 1
+push 2 1 4
+look 1 2 4
+commit 1
+push 3 1 4
+look 1 3 4
+commit 1
+push 4 1 4
+look 1 4 4
+commit 1
+push 1 2 6
+commit 1
 ship 1 2
 take 2 1
 push 2 1 4
@@ -89,14 +123,105 @@ take 4 1
 push 4 1 4
 look 1 4 4
 commit 1
-commit 1
+push 1 3 6
+look 3 1 6
+commit 3
+commit 3
+push 3 2 6
+look 2 3 6
+commit 2
+push 1 2 6
+look 2 1 6
+commit 2
+commit 2
+commit 2
+submit 1 4 9 1 45
+submit 1 4 10 1 46
 ship 1 2
-timeout 7
-push 7 2 5
-look 2 7 5
+ship 1 2
+ship 1 6
+timeout 4
+timeout 2
+push 4 2 5
+look 2 4 5
 elect 2
+push 2 4 5
+look 4 2 5
+timeout 3
+push 4 3 5
+look 3 4 5
+elect 3
+push 3 4 5
+look 4 3 5
+push 4 6 5
+look 6 4 5
+elect 6
+push 6 4 5
+look 4 6 5
+take 6 1
+show 6
+take 6 1
+show 2
 take 2 1
 show 2
+take 2 1
+take 2 1
+win 4
+ship 4 2
+take 2 4
+push 2 1 4
+look 1 2 4
+ship 4 3
+take 3 4
+push 3 1 4
+look 1 3 4
+ship 4 6
+take 6 4
+push 6 1 4
+look 1 6 4
+push 4 1 4
+look 1 4 4
+show 1
+commit 1
+commit 2
+ship 4 1
+take 1 4
+show 1
+ship 1 2
+commit 1
+commit 4
+push 2 4 4
+look 4 2 4
+commit 4
+push 3 4 4
+look 4 3 4
+commit 4
+push 6 4 4
+look 4 6 4
+commit 4
+commit 4
+timeout 1
+timeout 1
+timeout 2
+push 1 2 5
+look 2 1 5
+elect 2
+push 2 1 5
+look 1 2 5
+timeout 3
+push 1 3 5
+look 3 1 5
+elect 3
+push 3 1 5
+look 1 3 5
+timeout 6
+push 1 6 5
+look 6 1 5
+elect 6
+push 6 1 5
+look 1 6 5
+win 1
+show 1
 ",
     prints: "ok 0 1
 ok
@@ -150,79 +275,286 @@ ok
 ok
 ok 0
 ok 1
+ok
+ok
+ok 0
+ok 1
+ok
+ok
 ok 1 1
+no 5
+ok 0 2
+ok
+ok
+ok 2
 ok
 ok
 no 5
+ok 0 3
 ok
 ok
-ok
-ok
-no 5
-ok
-ok
+ok 2
 ok
 ok
 no 5
+ok 0 4
 ok
 ok
-no 7
-no 5
-no 5
-card 1: electing
-  epoch 0.1, new epoch 1.1, vote 1.1 with 0.1.3
-  accepted 0.1.3, committed 0.1.1, next 0.1.2
-  peer 2: shipped up to 3; accept 0.1.3, vote 0.1 with 0.0.0, commit 0.0.0
-  peer 3: shipped up to 3; accept 0.1.3, vote 0.1 with 0.0.0, commit 0.0.0
-  peer 4: shipped up to 3; accept 0.1.3, vote 0.1 with 0.0.0, commit 0.0.0
+ok 2
+ok
+ok
+ok 1 1
+card 1: leader
+  epoch 1.1, new epoch 1.1, vote 1.1 with 0.1.3
+  accepted 1.1.0, committed 0.1.1, next 1.1.0
+  peer 2: nothing shipped; accept 0.1.3, vote 1.1 with 0.1.3, commit 0.1.1
+  peer 3: nothing shipped; accept 0.1.3, vote 1.1 with 0.1.3, commit 0.0.0
+  peer 4: nothing shipped; accept 0.1.3, vote 1.1 with 0.1.3, commit 0.0.0
   peer 5: nothing shipped; accept 0.0.0, vote 0.0 with 0.0.0, commit 0.0.0
   peer 6: nothing shipped; accept 0.0.0, vote 0.0 with 0.0.0, commit 0.0.0
   peer 7: nothing shipped; accept 0.0.0, vote 0.0 with 0.0.0, commit 0.0.0
   log: 3 of 16 places
     0.1.1 queue 4: book load 7 for carrier 42
-    0.1.2 queue 4: book load 7 for carrier 43
+    0.1.2 queue 4: book load 8 for carrier 43
     0.1.3 queue 4: release load 7 by carrier 42
   board: load 7 held by carrier 42
-no 5
 no 6
-ok
-ok
-no 5
-no 5
+ok 1 1 1
 no 6
-ok
-ok
-no 5
-no 5
 no 6
-ok
-ok
-no 5
-no 5
-no 5
-ok 0 7
-ok
-ok
-no 5
-no 6
+ok 3
+ok 2
+ok 4
+ok 2
+ok 4
+ok 2
 card 2: follower
-  epoch 0.1, new epoch 0.1, vote 0.1 with 0.0.0
-  accepted 0.1.3, committed 0.0.0, next 0.1.0
-  peer 1: nothing shipped; accept 0.0.0, vote 1.1 with 0.1.3, commit 0.0.0
+  epoch 1.1, new epoch 1.1, vote 1.1 with 0.1.3
+  accepted 1.1.0, committed 0.1.1, next 1.1.0
+  peer 1: nothing shipped; accept 0.0.0, vote 1.1 with 0.1.3, commit 0.1.1
   peer 3: nothing shipped; accept 0.0.0, vote 0.0 with 0.0.0, commit 0.0.0
   peer 4: nothing shipped; accept 0.0.0, vote 0.0 with 0.0.0, commit 0.0.0
   peer 5: nothing shipped; accept 0.0.0, vote 0.0 with 0.0.0, commit 0.0.0
   peer 6: nothing shipped; accept 0.0.0, vote 0.0 with 0.0.0, commit 0.0.0
-  peer 7: nothing shipped; accept 0.0.0, vote 0.7 with 0.0.0, commit 0.0.0
+  peer 7: nothing shipped; accept 0.0.0, vote 0.0 with 0.0.0, commit 0.0.0
   log: 3 of 16 places
     0.1.1 queue 4: book load 7 for carrier 42
-    0.1.2 queue 4: book load 7 for carrier 43
+    0.1.2 queue 4: book load 8 for carrier 43
     0.1.3 queue 4: release load 7 by carrier 42
+  board: load 7 held by carrier 42
+no 6
+no 6
+ok
+ok
+no 6
+ok
+ok
+no 6
+ok
+ok
+ok 2
+no 6
+no 6
+ok 1
+ok 1
+ok
+ok
+no 6
+ok 1
+ok 1
+ok
+ok
+no 6
+ok 1
+ok 1
+ok
+ok
+ok 1
+ok
+ok
+ok 3
+ok 1
+ok
+ok
+no 6
+ok
+ok
+ok 2
+ok 1
+no 6
+ok 1 1 2
+ok 1 1 3
+ok 1
+ok 1
+ok 4
+ok 1 4
+ok 1 2
+ok
+ok
+ok 2
+ok
+ok
+ok 1 3
+ok
+ok
+ok 2
+ok
+ok
+ok
+ok
+ok 2
+ok
+ok
+ok 0
+card 6: electing
+  epoch 0.0, new epoch 1.4, vote 1.4 with 1.1.1
+  accepted 0.0.0, committed 0.0.0, next 0.0.0
+  peer 1: nothing shipped; accept 0.0.0, vote 0.0 with 0.0.0, commit 0.0.0
+  peer 2: nothing shipped; accept 0.0.0, vote 0.0 with 0.0.0, commit 0.0.0
+  peer 3: nothing shipped; accept 0.0.0, vote 0.0 with 0.0.0, commit 0.0.0
+  peer 4: nothing shipped; accept 0.0.0, vote 1.4 with 1.1.1, commit 0.0.0
+  peer 5: nothing shipped; accept 0.0.0, vote 0.0 with 0.0.0, commit 0.0.0
+  peer 7: nothing shipped; accept 0.0.0, vote 0.0 with 0.0.0, commit 0.0.0
+  log: 0 of 16 places
   board: every load is open
-card 1 0.1.1
-card 2
-card 3
-card 4
+no 6
+card 2: electing
+  epoch 1.1, new epoch 1.4, vote 1.4 with 1.1.1
+  accepted 1.1.1, committed 1.1.1, next 1.1.2
+  peer 1: nothing shipped; accept 0.0.0, vote 1.1 with 0.1.3, commit 1.1.1
+  peer 3: nothing shipped; accept 0.0.0, vote 0.0 with 0.0.0, commit 1.1.1
+  peer 4: nothing shipped; accept 0.0.0, vote 1.4 with 1.1.1, commit 0.0.0
+  peer 5: nothing shipped; accept 0.0.0, vote 0.0 with 0.0.0, commit 0.0.0
+  peer 6: nothing shipped; accept 0.0.0, vote 0.0 with 0.0.0, commit 0.0.0
+  peer 7: nothing shipped; accept 0.0.0, vote 0.0 with 0.0.0, commit 0.0.0
+  log: 4 of 16 places
+    0.1.1 queue 4: book load 7 for carrier 42
+    0.1.2 queue 4: book load 8 for carrier 43
+    0.1.3 queue 4: release load 7 by carrier 42
+    1.1.1 queue 4: book load 7 for carrier 44
+  board: load 7 held by carrier 44 load 8 held by carrier 43
+ok 0
+card 2: electing
+  epoch 1.1, new epoch 1.4, vote 1.4 with 1.1.1
+  accepted 1.1.1, committed 1.1.1, next 1.1.2
+  peer 1: nothing shipped; accept 0.0.0, vote 1.1 with 0.1.3, commit 1.1.1
+  peer 3: nothing shipped; accept 0.0.0, vote 0.0 with 0.0.0, commit 1.1.1
+  peer 4: nothing shipped; accept 0.0.0, vote 1.4 with 1.1.1, commit 0.0.0
+  peer 5: nothing shipped; accept 0.0.0, vote 0.0 with 0.0.0, commit 0.0.0
+  peer 6: nothing shipped; accept 0.0.0, vote 0.0 with 0.0.0, commit 0.0.0
+  peer 7: nothing shipped; accept 0.0.0, vote 0.0 with 0.0.0, commit 0.0.0
+  log: 4 of 16 places
+    0.1.1 queue 4: book load 7 for carrier 42
+    0.1.2 queue 4: book load 8 for carrier 43
+    0.1.3 queue 4: release load 7 by carrier 42
+    1.1.1 queue 4: book load 7 for carrier 44
+  board: load 7 held by carrier 44 load 8 held by carrier 43
+ok 0
+no 6
+ok 1 4
+ok 5
+ok 2
+ok
+ok
+ok 5
+ok 2
+ok
+ok
+ok 5
+ok 2
+ok
+ok
+ok
+ok
+card 1: leader
+  epoch 1.1, new epoch 1.1, vote 1.1 with 0.1.3
+  accepted 1.1.3, committed 1.1.1, next 1.1.2
+  peer 2: shipped up to 3; accept 1.4.0, vote 1.1 with 0.1.3, commit 0.1.1
+  peer 3: shipped up to 1; accept 1.4.0, vote 1.1 with 0.1.3, commit 0.0.0
+  peer 4: shipped up to 1; accept 1.4.0, vote 1.1 with 0.1.3, commit 0.0.0
+  peer 5: nothing shipped; accept 0.0.0, vote 0.0 with 0.0.0, commit 0.0.0
+  peer 6: shipped the diff; accept 1.4.0, vote 0.0 with 0.0.0, commit 0.0.0
+  peer 7: nothing shipped; accept 0.0.0, vote 0.0 with 0.0.0, commit 0.0.0
+  log: 6 of 16 places
+    0.1.1 queue 4: book load 7 for carrier 42
+    0.1.2 queue 4: book load 8 for carrier 43
+    0.1.3 queue 4: release load 7 by carrier 42
+    1.1.1 queue 4: book load 7 for carrier 44
+    1.1.2 queue 4: book load 9 for carrier 45
+    1.1.3 queue 4: book load 10 for carrier 46
+  board: load 7 held by carrier 44 load 8 held by carrier 43
+no 6
+no 6
+ok 5
+ok 2
+card 1: follower
+  epoch 1.4, new epoch 1.4, vote 1.1 with 0.1.3
+  accepted 1.4.0, committed 1.1.1, next 1.4.0
+  peer 2: shipped up to 3; accept 1.4.0, vote 1.1 with 0.1.3, commit 0.1.1
+  peer 3: shipped up to 1; accept 1.4.0, vote 1.1 with 0.1.3, commit 0.0.0
+  peer 4: shipped up to 1; accept 1.4.0, vote 1.1 with 0.1.3, commit 0.0.0
+  peer 5: nothing shipped; accept 0.0.0, vote 0.0 with 0.0.0, commit 0.0.0
+  peer 6: shipped the diff; accept 1.4.0, vote 0.0 with 0.0.0, commit 0.0.0
+  peer 7: nothing shipped; accept 0.0.0, vote 0.0 with 0.0.0, commit 0.0.0
+  log: 4 of 16 places
+    0.1.1 queue 4: book load 7 for carrier 42
+    0.1.2 queue 4: book load 8 for carrier 43
+    0.1.3 queue 4: release load 7 by carrier 42
+    1.1.1 queue 4: book load 7 for carrier 44
+  board: load 7 held by carrier 44 load 8 held by carrier 43
+no 5
+no 6
+no 6
+ok
+ok
+no 6
+ok
+ok
+no 6
+ok
+ok
+ok 4
+no 6
+ok 2 1
+ok 3 1
+ok 2 2
+ok
+ok
+ok 2
+ok
+ok
+ok 2 3
+ok
+ok
+ok 2
+ok
+ok
+ok 1 6
+ok
+ok
+ok 2
+ok
+ok
+ok 3 1
+card 1: leader
+  epoch 3.1, new epoch 3.1, vote 3.1 with 1.4.0
+  accepted 3.1.0, committed 1.1.1, next 3.1.0
+  peer 2: nothing shipped; accept 1.4.0, vote 3.1 with 1.4.0, commit 0.1.1
+  peer 3: nothing shipped; accept 1.4.0, vote 3.1 with 1.4.0, commit 0.0.0
+  peer 4: nothing shipped; accept 1.4.0, vote 1.1 with 0.1.3, commit 0.0.0
+  peer 5: nothing shipped; accept 0.0.0, vote 0.0 with 0.0.0, commit 0.0.0
+  peer 6: nothing shipped; accept 1.4.0, vote 3.1 with 1.4.0, commit 0.0.0
+  peer 7: nothing shipped; accept 0.0.0, vote 0.0 with 0.0.0, commit 0.0.0
+  log: 4 of 16 places
+    0.1.1 queue 4: book load 7 for carrier 42
+    0.1.2 queue 4: book load 8 for carrier 43
+    0.1.3 queue 4: release load 7 by carrier 42
+    1.1.1 queue 4: book load 7 for carrier 44
+  board: load 7 held by carrier 44 load 8 held by carrier 43
+card 1 0.1.1 0.1.2 0.1.3 1.1.1
+card 2 0.1.1 0.1.2 0.1.3 1.1.1
+card 3 0.1.1 0.1.2 0.1.3 1.1.1
+card 4 0.1.1 0.1.2 0.1.3 1.1.1
 card 5
 card 6
 card 7
