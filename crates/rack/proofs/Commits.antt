@@ -1,5 +1,5 @@
 -- commit, from its part on one card, its log and its machine.
-use Rattle.std.proofs.Common.{◌≡◌, ℕ, ◌-◌, ◌≤◌, Bool, true, cond, not, List, [], ◌∷◌, map, length, get_or, Ok, Err, sym, refl, ap, ◌∙◌, subst, arith}
+use Rattle.std.proofs.Common.{◌≡◌, ℕ, ◌-◌, ◌≤◌, Bool, true, cond, not, List, [], ◌∷◌, map, length, get_or, Err, sym, refl, ap, ◌∙◌, subst, arith}
 use Rattle.std.proofs.lemmas.Bool.{cond-true}
 use Rattle.std.proofs.lemmas.List.{get_or-map}
 use Rattle.refusals.specs.declared.Refusal.{Refusal}
@@ -10,10 +10,9 @@ use Rattle.frames.specs.Views.{entry_fields}
 use Rattle.frames.specs.declared.entry.Entry.{Entry}
 use Rattle.protocol.specs.Rack.{State, Reply, ask, at, with_card, with_machine, is_electing}
 use Rattle.protocol.specs.Committing.{supported, due_entries, committed_to, applied, committed, commit}
-use Rattle.protocol.specs.declared.answer.Answer.{Answer}
 use Rattle.protocol.specs.declared.answer.Answer.TheVariants.{Count}
 use Rattle.protocol.specs.declared.card.Card.{Card}
-use Rattle.protocol.proofs.Asked.{ask_done, ask_refused, ask_lifts}
+use Rattle.protocol.proofs.Asked.{ask_keeps, ask_lifts}
 use Rattle.cards.specs.Parts.{of_cards}
 use Rattle.cards.specs.declared.member.Member.{Member}
 use Rattle.card_log.specs.Parts.{is_missing, commit_log}
@@ -72,12 +71,12 @@ module _ {S : Type 0} (apply : ℕ → Words → S → S) (r : Rack) (i capacity
       ∙ (λ k. ask checks (Count (length due)) (committed apply i s) (whole_before k))
       ∙ at_rack
 
-  pub commit_refused : (why : Refusal) (x : Card × S) → (Err why, x) ≡ commit_log apply r.size i (map entry_fields seen) (seat.card, m) → (Err why, s) ≡ commit apply (sizes r capacity) i s
-  commit_refused why x e = (ask_refused checks [] (Count (length due)) (Count (length due)) why after before x (committed apply i s) s (e ∙ from_part)).1 ∙ at_rack
+  sound : sound_card own ≡ true
+  sound = ap sound_card (own_card r i entries ms lanes found.is) ∙ r.sound (i - 1)
 
-  pub commit_sound : (said : Answer) (x : Card × S) → (Ok said, x) ≡ commit_log apply r.size i (map entry_fields seen) (seat.card, m) → sound_card x.0 ≡ true
-  commit_sound said x e =
-      let d = ask_done checks (Count (length due)) said after before x (e ∙ from_part) in
+  -- refused or not
+  pub commit_sound : (reply : Reply) (x : Card × S) → (reply, x) ≡ commit_log apply r.size i (map entry_fields seen) (seat.card, m) → sound_card x.0 ≡ true
+  commit_sound reply x e =
       let entered : AreEntries (s.logs i) = subst AreEntries log_is (entries_all seen) in
-      ap (λ (p : Card × S). sound_card p.0) d.2
-      ∙ sound_committed due own (ap sound_card (own_card r i entries ms lanes found.is) ∙ r.sound (i - 1)) (entries_due own (s.logs i) entered)
+      ap (λ (t : Reply × (Card × S)). sound_card t.1.0) (e ∙ from_part)
+      ∙ ask_keeps (λ (p : Card × S). sound_card p.0 ≡ true) checks (Count (length due)) after before sound (λ _. sound_committed due own sound (entries_due own (s.logs i) entered))

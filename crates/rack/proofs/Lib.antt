@@ -8,6 +8,7 @@ pub mod Submits
 pub mod Commits
 pub mod Opens
 pub mod Peers
+pub mod Places
 pub mod Exchanges
 pub mod Readings
 pub mod Ships

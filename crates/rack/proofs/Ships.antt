@@ -1,5 +1,5 @@
 -- ship, from its part on one card, its log and the lanes.
-use Rattle.std.proofs.Common.{◌≡◌, ℕ, ◌+◌, ◌-◌, ◌≤◌, Bool, true, false, cond, not, eqb, ltb, List, [], ◌∷◌, ◌++◌, map, length, get_or, Some, None, Ok, Err, Option, sym, refl, ap, ◌∙◌, arith}
+use Rattle.std.proofs.Common.{◌≡◌, ℕ, ◌+◌, ◌-◌, ◌≤◌, Bool, true, false, cond, not, eqb, ltb, List, [], ◌∷◌, ◌++◌, map, length, get_or, Some, None, Err, Option, sym, refl, ap, ◌∙◌, arith}
 use Rattle.std.proofs.lemmas.Bool.{not-false}
 use Rattle.std.proofs.lemmas.List.Filters.{length-filter_both}
 use Rattle.refusals.specs.declared.Refusal.{Refusal}
@@ -12,10 +12,9 @@ use Rattle.frames.specs.Views.{entry_fields}
 use Rattle.protocol.specs.Rows.{row_of, mark_shipped}
 use Rattle.protocol.specs.Rack.{State, Reply, ask, is_leader}
 use Rattle.protocol.specs.Booking.{inside, diff_entries, shipment_to, shipped_after, shipped, ship, with_peers}
-use Rattle.protocol.specs.declared.answer.Answer.{Answer}
 use Rattle.protocol.specs.declared.answer.Answer.TheVariants.{Count}
 use Rattle.protocol.specs.declared.card.Card.{Card}
-use Rattle.protocol.proofs.Asked.{ask_done, ask_refused, ask_omit, ask_lifts}
+use Rattle.protocol.proofs.Asked.{ask_keeps, ask_omit, ask_lifts}
 use Rattle.logs.proofs.Logs.{log_length}
 use Rattle.cards.specs.LaneViews.{lane_fields}
 use Rattle.cards.specs.Sizes.{card_count}
@@ -31,7 +30,7 @@ use Rattle.rack.proofs.Sounds.{sound_shipped}
 use Rattle.rack.proofs.Frames.{framed_head, base_header}
 use Rattle.rack.proofs.Views.{own_card, own_log, view_written}
 use Rattle.rack.proofs.Peers.{Pair, lane_is}
-use Rattle.rack.proofs.Exchanges.{with_lanes, with_both, both_same}
+use Rattle.rack.proofs.Exchanges.{with_both, both_same}
 
 -- a sound leader's diff has a head
 shippable : (c : Card) (base : Header) (o : Option ℕ) (log : List EntryFields) → sound_card c ≡ true → is_leader c.role ≡ true → is_header base ≡ true → length log ≤ 1024 → unshippable c base o log ≡ false
@@ -97,12 +96,8 @@ module _ {S : Type 0} (r : Rack) (i j room : ℕ) (entries : List Entry) (ms : �
       ∙ (λ k. ask checks (Count (length due)) (shipped i j s) (both_same i s k))
       ∙ at_rack
 
-  pub ship_refused : (why : Refusal) (c : Card) (lanes' : Lanes) → (Err why, (c, lane_fields lanes')) ≡ ship_part count room i j (map entry_fields seen) (seat.card, lane_fields lanes) → (Err why, view r entries ms lanes') ≡ ship (sizes r room) i j s
-  ship_refused why c lanes' e =
-      let d = ask_refused checks [] (Count (length due)) (Count (length due)) why after before (c, lane_fields lanes') (shipped i j s) s (e ∙ from_part) in
-      (λ k. (Err why, with_lanes (d.0 k).1 s)) ∙ d.1 ∙ at_rack
-
-  pub ship_sound : (said : Answer) (c : Card) (lanes' : Lanes) → (Ok said, (c, lane_fields lanes')) ≡ ship_part count room i j (map entry_fields seen) (seat.card, lane_fields lanes) → sound_card c ≡ true
-  ship_sound said c lanes' e =
-      let d = ask_done checks (Count (length due)) said after before (c, lane_fields lanes') (e ∙ from_part) in
-      ap (λ (p : Part). sound_card p.0) d.2 ∙ sound_shipped own j (shipped_after (row_of own.peers j).shipped) sound
+  -- refused or not
+  pub ship_sound : (reply : Reply) (c : Card) (lanes' : Lanes) → (reply, (c, lane_fields lanes')) ≡ ship_part count room i j (map entry_fields seen) (seat.card, lane_fields lanes) → sound_card c ≡ true
+  ship_sound reply c lanes' e =
+      ap (λ (t : Reply × Part). sound_card t.1.0) (e ∙ from_part)
+      ∙ ask_keeps (λ (p : Part). sound_card p.0 ≡ true) checks (Count (length due)) after before sound (λ _. sound_shipped own j (shipped_after (row_of own.peers j).shipped) sound)

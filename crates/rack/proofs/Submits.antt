@@ -1,5 +1,5 @@
 -- submit, from its part on one card and its log.
-use Rattle.std.proofs.Common.{◌≡◌, ℕ, ◌+◌, ◌-◌, ◌*◌, Bool, true, false, cond, not, ◌||◌, ltb, leb, List, [], ◌∷◌, ◌++◌, length, Ok, Err, sym, refl, ap, ◌∙◌, arith}
+use Rattle.std.proofs.Common.{◌≡◌, ℕ, ◌+◌, ◌-◌, ◌*◌, Bool, true, false, cond, not, ◌||◌, ltb, leb, List, [], ◌∷◌, ◌++◌, length, Err, sym, refl, ap, ◌∙◌, arith}
 use Rattle.std.proofs.lemmas.Bool.{and_from, le-leb, ltb-false, not-false}
 use Rattle.refusals.specs.declared.Refusal.{Refusal}
 use Rattle.refusals.specs.declared.Refusal.TheVariants.{NoSuchCard, OutOfRange, Stopped, WrongRole, Malformed, LogFull, UsedUp}
@@ -12,7 +12,7 @@ use Rattle.protocol.specs.Booking.{place_after, booked, accepted_up_to, submitte
 use Rattle.protocol.specs.declared.answer.Answer.{Answer}
 use Rattle.protocol.specs.declared.answer.Answer.TheVariants.{Placed}
 use Rattle.protocol.specs.declared.card.Card.{Card}
-use Rattle.protocol.proofs.Asked.{Passed, ask_done, ask_refused, ask_omit, ask_lifts}
+use Rattle.protocol.proofs.Asked.{Passed, ask_keeps, ask_refused, ask_omit, ask_lifts}
 use Rattle.cards.specs.Sizes.{card_count}
 use Rattle.card_log.specs.Parts.{is_booking, submit_log}
 use Rattle.rack.specs.Sound.{sound_card}
@@ -22,7 +22,7 @@ use Rattle.rack.specs.declared.seat.Seat.{Seat}
 use Rattle.rack.specs.declared.state.Rack.{Rack}
 use Rattle.rack.proofs.Sounds.{sound_parts, sound_placed, place_entry}
 use Rattle.rack.proofs.Parts.{part_long, Replaced}
-use Rattle.rack.proofs.Views.{Found, own_card, own_log, put_back, view_changed}
+use Rattle.rack.proofs.Views.{Found, card_same, own_card, own_log, put_back, view_changed, view_written}
 
 -- a sound leader's next header is an entry's
 booking : (c : Card) (queue : ℕ) → sound_card c ≡ true → is_leader c.role ≡ true → leb 4294967294 c.accepted.2 ≡ false → ltb 15 queue ≡ false → is_booking (place_after c.accepted) queue ≡ true
@@ -91,10 +91,16 @@ module _ {S : Type 0} (r : Rack) (i queue capacity : ℕ) (payload : Words) (ent
           (λ k. (reply, (view_changed r r' i (record { card = x.0; used = u }) x.2 entries ms lanes is ch entries' part' w ∙ (λ t. with_card i x.0 (with_log i (sym log t) (with_tally x.2 s)))) k))
           ∙ lifted
 
-    pub submit_refused : (why : Refusal) (x : Part) → (Err why, x) ≡ submit_log (length part) queue payload (seat.card, log_of part seat.used, r.tally) → (Err why, s) ≡ submit (sizes r capacity) i queue payload s
-    submit_refused why x e = (ask_refused (checks ++ (odd, Malformed) ∷ []) [] next next why after before x (submitted i queue payload s) s (e ∙ from_part)).1 ∙ at_rack
+    -- refused, it leaves the card and all else
+    pub submit_refused : (why : Refusal) (x : Part) (r' : Rack) → (Err why, x) ≡ submit_log (length part) queue payload (seat.card, log_of part seat.used, r.tally) → Written r r' i (record { card = x.0; used = seat.used }) r.tally → (Err why, view r' entries ms lanes) ≡ submit (sizes r capacity) i queue payload s
+    submit_refused why x r' e ch =
+        let d = ask_refused (checks ++ (odd, Malformed) ∷ []) [] next next why after before x (submitted i queue payload s) s (e ∙ from_part) in
+        (λ k. (Err why, (view_written r r' i (record { card = x.0; used = seat.used }) r.tally entries ms lanes is ch found.used refl ∙ (λ t. with_card i (d.0 t).0 s) ∙ card_same i s) k))
+        ∙ d.1
+        ∙ at_rack
 
-    pub submit_sound : (said : Answer) (x : Part) → (Ok said, x) ≡ submit_log (length part) queue payload (seat.card, log_of part seat.used, r.tally) → sound_card x.0 ≡ true
-    submit_sound said x e =
-        let d = ask_done (checks ++ (odd, Malformed) ∷ []) next said after before x (e ∙ from_part) in
-        ap (λ (p : Part). sound_card p.0) d.2 ∙ sound_placed own sound (not-false (is_leader own.role) d.0.1.0) (or_left (leb 4294967294 own.accepted.2) (leb 18446744073709551615 r.tally) d.0.1.1.1.0)
+    -- refused or not
+    pub submit_sound : (reply : Reply) (x : Part) → (reply, x) ≡ submit_log (length part) queue payload (seat.card, log_of part seat.used, r.tally) → sound_card x.0 ≡ true
+    submit_sound reply x e =
+        ap (λ (t : Reply × Part). sound_card t.1.0) (e ∙ from_part)
+        ∙ ask_keeps (λ (p : Part). sound_card p.0 ≡ true) (checks ++ (odd, Malformed) ∷ []) next after before sound (λ p. sound_placed own sound (not-false (is_leader own.role) p.1.0) (or_left (leb 4294967294 own.accepted.2) (leb 18446744073709551615 r.tally) p.1.1.1.0))

@@ -1,5 +1,5 @@
 -- take, from its part on one card, its log and the lanes.
-use Rattle.std.proofs.Common.{◌≡◌, ℕ, ◌-◌, ◌*◌, Bool, true, false, cond, not, ◌&&◌, ◌||◌, eqb, ltb, List, [], ◌∷◌, length, Ok, Err, sym, refl, ap, ◌∙◌}
+use Rattle.std.proofs.Common.{◌≡◌, ℕ, ◌-◌, ◌*◌, Bool, true, false, cond, not, ◌&&◌, ◌||◌, eqb, ltb, List, [], ◌∷◌, length, Err, sym, refl, ap, ◌∙◌}
 use Rattle.std.proofs.lemmas.Bool.{not-false, and_parts}
 use Rattle.refusals.specs.declared.Refusal.{Refusal}
 use Rattle.refusals.specs.declared.Refusal.TheVariants.{NoSuchCard, Stopped, NothingDue, Malformed, OutOfTurn, LogFull}
@@ -10,7 +10,7 @@ use Rattle.protocol.specs.Rack.{State, Reply, ask, with_card, with_log}
 use Rattle.protocol.specs.Taking.{front, is_message, is_diff, whole_diff, formed, too_low, in_turn, log_after, taken_by, take_answer, passed_over, entered, taken, take_call}
 use Rattle.protocol.specs.declared.answer.Answer.{Answer}
 use Rattle.protocol.specs.declared.card.Card.{Card}
-use Rattle.protocol.proofs.Asked.{ask_done, ask_refused, ask_omit, ask_lifts}
+use Rattle.protocol.proofs.Asked.{Passed, ask_keeps, ask_refused, ask_omit, ask_lifts}
 use Rattle.logs.specs.Log.{log_of}
 use Rattle.cards.specs.LaneViews.{lane_fields}
 use Rattle.cards.specs.Sizes.{card_count}
@@ -23,7 +23,7 @@ use Rattle.rack.specs.declared.state.Rack.{Rack}
 use Rattle.rack.proofs.Sounds.{sound_taken}
 use Rattle.rack.proofs.Parts.{part_long, Replaced}
 use Rattle.rack.proofs.Peers.{Pair, lane_is, apart_back, front_frame}
-use Rattle.rack.proofs.Views.{own_card, own_log, put_back, view_changed}
+use Rattle.rack.proofs.Views.{card_same, own_card, own_log, put_back, view_changed, view_written}
 use Rattle.rack.proofs.Exchanges.{with_lanes}
 
 -- what has a form is a message or a diff
@@ -94,19 +94,26 @@ module _ {S : Type 0} (r : Rack) (i j room : ℕ) (entries : List Entry) (ms : �
       ∙ (λ k. ask checks answer (after_is low k) (put_back i s k))
       ∙ at_rack
 
-  pub take_refused : (why : Refusal) (x : Held) (lanes' : Lanes) → x.2 ≡ lane_fields lanes' → (Err why, x) ≡ take_part count (length part) i j (seat.card, log_of part seat.used, lane_fields lanes) → (Err why, view r entries ms lanes') ≡ take_call (sizes r room) i j s
-  take_refused why x lanes' same e =
+  -- refused, it leaves the card and all else
+  pub take_refused : (why : Refusal) (x : Held) (lanes' : Lanes) (r' : Rack) → x.2 ≡ lane_fields lanes' → (Err why, x) ≡ take_part count (length part) i j (seat.card, log_of part seat.used, lane_fields lanes) → Written r r' i (record { card = x.0; used = seat.used }) r.tally → (Err why, view r' entries ms lanes') ≡ take_call (sizes r room) i j s
+  take_refused why x lanes' r' same e ch =
       let d = ask_refused checks [] answer answer why (take_after i j 0 before) before x (taken i j s) s (e ∙ from_part) in
-      (λ k. (Err why, with_lanes ((sym same ∙ (λ t. (d.0 t).2)) k) s)) ∙ d.1 ∙ at_rack
+      (λ k. (Err why, (view_written r r' i (record { card = x.0; used = seat.used }) r.tally entries ms lanes' pair.card ch pair.found.used refl ∙ (λ t. with_card i (d.0 t).0 (with_lanes ((sym same ∙ (λ u. (d.0 u).2)) t) s)) ∙ card_same i s) k))
+      ∙ d.1
+      ∙ at_rack
 
   taken_sound : (b : Bool) → sound_card (taken_by own (front lane)) ≡ true → sound_card (cond {A = Held} b (own, s.logs i, front_gone i j 0 s.lanes) (taken_by own (front lane), log_after lane (s.logs i), front_gone i j 0 s.lanes)).0 ≡ true
   taken_sound true t = sound
   taken_sound false t = t
 
-  pub take_sound : (said : Answer) (x : Held) → (Ok said, x) ≡ take_part count (length part) i j (seat.card, log_of part seat.used, lane_fields lanes) → sound_card x.0 ≡ true
-  take_sound said x e =
-      let d = ask_done checks answer said (take_after i j 0 before) before x (e ∙ from_part) in
-      let well = not-false (formed j lane) d.0.1.1.1.0 in
+  takes : Passed checks → sound_card (take_after i j 0 before).0 ≡ true
+  takes p =
+      let well = not-false (formed j lane) p.1.1.1.0 in
       let kind = or_and (is_message (front lane)) (is_diff (front lane)) (whole_diff lane) (and_parts (is_message (front lane) || (is_diff (front lane) && whole_diff lane)) (eqb (front lane).leader j) well).0 in
-      ap (λ (p : Held). sound_card p.0) d.2
-      ∙ taken_sound low (sound_taken own (front lane) sound (front_frame (lanes j i 0) d.0.1.1.0) kind)
+      taken_sound low (sound_taken own (front lane) sound (front_frame (lanes j i 0) p.1.1.0) kind)
+
+  -- refused or not
+  pub take_sound : (reply : Reply) (x : Held) → (reply, x) ≡ take_part count (length part) i j (seat.card, log_of part seat.used, lane_fields lanes) → sound_card x.0 ≡ true
+  take_sound reply x e =
+      ap (λ (t : Reply × Held). sound_card t.1.0) (e ∙ from_part)
+      ∙ ask_keeps (λ (p : Held). sound_card p.0 ≡ true) checks answer (take_after i j 0 before) before sound takes

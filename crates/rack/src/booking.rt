@@ -32,7 +32,7 @@ impl Rack {
         ensures sizes { sizes self.new 0 ≡ sizes self.old 0 }
         ensures stays { OnErr result (entries.new ≡ entries.old) }
     {
-        let mut seat = self.seat(card)?;
+        let used = self.seat(card)?.used;
         if entries.len() != self.total() {
             return Err(RackFault::WrongSize);
         }
@@ -45,13 +45,10 @@ impl Rack {
         // `&mut entries[low..high]`, of which it does not know what is held afterwards.
         let (_, rest) = entries.split_at_mut(self.start(card));
         let (places, _) = rest.split_at_mut(self.places);
-        let mut log = Log {
-            places,
-            used: seat.used,
-        };
-        let header = card_log::submit(&mut seat.card, &mut log, &mut tally, queue, payload)?;
-        seat.used = log.used;
-        self.put(card, seat);
+        let mut log = Log { places, used };
+        let own = &mut self.seats[card as usize - 1].card;
+        let header = card_log::submit(own, &mut log, &mut tally, queue, payload)?;
+        self.seats[card as usize - 1].used = log.used;
         self.tally = tally;
         Ok(header)
     }
@@ -67,14 +64,15 @@ impl Rack {
         ensures sizes { sizes self.new 0 ≡ sizes self.old 0 }
         ensures stays { OnErr result (machines.new ≡ machines.old) }
     {
-        let mut seat = self.seat(card)?;
+        self.seat(card)?;
         let log = self.log(entries, card)?;
         if machines.len() != self.size.cards() as usize {
             return Err(RackFault::WrongSize);
         }
         let machine = &mut machines[card as usize - 1];
-        let count = card_log::commit(&mut seat.card, log, machine, self.member(card))?;
-        self.put(card, seat);
+        let member = self.member(card);
+        let own = &mut self.seats[card as usize - 1].card;
+        let count = card_log::commit(own, log, machine, member)?;
         Ok(count as u32)
     }
 }

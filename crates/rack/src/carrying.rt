@@ -30,14 +30,13 @@ impl Rack {
         ensures count { B.Backplane.count backplane.new ≡ B.Backplane.count backplane.old }
         ensures room { B.Backplane.room backplane.new ≡ B.Backplane.room backplane.old }
     {
-        let mut seat = self.seat_to(card, peer)?;
+        self.seat_to(card, peer)?;
         let log = self.log(entries, card)?;
         if backplane.cards() != self.size.cards() {
             return Err(RackFault::WrongSize);
         }
-        let frames = shipping::ship(&mut seat.card, log, backplane, card, peer)?;
-        self.put(card, seat);
-        Ok(frames)
+        let own = &mut self.seats[card as usize - 1].card;
+        Ok(shipping::ship(own, log, backplane, card, peer)?)
     }
 
     // Takes the first message or whole diff that waits from a peer.
@@ -54,20 +53,17 @@ impl Rack {
         ensures count { B.Backplane.count backplane.new ≡ B.Backplane.count backplane.old }
         ensures room { B.Backplane.room backplane.new ≡ B.Backplane.room backplane.old }
     {
-        let mut seat = self.seat_to(card, peer)?;
+        let used = self.seat_to(card, peer)?.used;
         if entries.len() != self.total() || backplane.cards() != self.size.cards() {
             return Err(RackFault::WrongSize);
         }
         // Kept: cut out here, as in `submit`, which says why.
         let (_, rest) = entries.split_at_mut(self.start(card));
         let (places, _) = rest.split_at_mut(self.places);
-        let mut log = Log {
-            places,
-            used: seat.used,
-        };
-        let intake = taking::take(&mut seat.card, &mut log, backplane, card, peer)?;
-        seat.used = log.used;
-        self.put(card, seat);
+        let mut log = Log { places, used };
+        let own = &mut self.seats[card as usize - 1].card;
+        let intake = taking::take(own, &mut log, backplane, card, peer)?;
+        self.seats[card as usize - 1].used = log.used;
         Ok(intake)
     }
 }

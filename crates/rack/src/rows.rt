@@ -35,7 +35,7 @@ impl Rack {
         ensures count { B.Backplane.count backplane.new ≡ B.Backplane.count backplane.old }
         ensures room { B.Backplane.room backplane.new ≡ B.Backplane.room backplane.old }
     {
-        let seat = self.seat_to(card, peer)?;
+        self.seat_to(card, peer)?;
         if backplane.cards() != self.size.cards() {
             return Err(RackFault::WrongSize);
         }
@@ -47,7 +47,7 @@ impl Rack {
             to: peer,
             number: kind,
         };
-        exchange::push(&seat.card, backplane, lane)?;
+        exchange::push(&self.seats[card as usize - 1].card, backplane, lane)?;
         Ok(())
     }
 
