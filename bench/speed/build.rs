@@ -1,0 +1,18 @@
+//! Links the proved library.
+
+use std::env;
+
+fn main() {
+    println!("cargo:rerun-if-env-changed=RACK_LINK");
+    println!("cargo:rerun-if-env-changed=RACK_LIBC");
+    let here = env!("CARGO_MANIFEST_DIR");
+    let folder =
+        env::var("RACK_LINK").unwrap_or_else(|_| format!("{here}/../../crates/rack_link/out"));
+    let libc = env::var("RACK_LIBC").unwrap_or_else(|_| "/opt/rattle/c".into());
+    println!("cargo:rerun-if-changed={folder}/librack_link.a");
+    println!("cargo:rustc-link-search=native={folder}");
+    println!("cargo:rustc-link-search=native={libc}");
+    println!("cargo:rustc-link-lib=static=rack_link");
+    // the allocator that the library calls
+    println!("cargo:rustc-link-lib=static=libc_c");
+}
