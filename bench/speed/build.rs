@@ -5,7 +5,7 @@ use std::env;
 fn main() {
     println!("cargo:rerun-if-env-changed=RACK_LINK");
     println!("cargo:rerun-if-env-changed=RACK_LIBC");
-    let here = env!("CARGO_MANIFEST_DIR");
+    let here = env::var("CARGO_MANIFEST_DIR").expect("cargo names the package's folder");
     let folder =
         env::var("RACK_LINK").unwrap_or_else(|_| format!("{here}/../../crates/rack_link/out"));
     let libc = env::var("RACK_LIBC").unwrap_or_else(|_| "/opt/rattle/c".into());

@@ -38,7 +38,6 @@ fn all_quiet<B: Backplane>(backplane: &B, cards: u8) -> bool
     (0..cards).all(|k| card_quiet(backplane, cards, k + 1))
 }
 
-// Whether nothing waits in any lane.
 pub fn is_quiet<B: Backplane>(backplane: &B) -> bool
     ensures { MatchBool result (B.Backplane.lanes backplane.now ≡ empty_lanes) (B.Backplane.lanes backplane.now ≢ empty_lanes) }
 {

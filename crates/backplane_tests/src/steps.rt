@@ -27,8 +27,8 @@ pub(crate) fn walk<B: Backplane>(
     Ok(())
 }
 
-// Fills a lane to eight, goes twice round it, and meets every refusal; other lanes stay as they were.
-pub(crate) fn eight_to_a_lane() -> [Step; 40] {
+// Fills a lane to eight, and meets every refusal; another lane gets one frame.
+pub(crate) fn eight_to_a_lane() -> [Step; 19] {
     let done = Ok(Answer::Done);
     let full = Err(LaneFault::Full.refusal());
     let nothing = Err(LaneFault::NothingThere.refusal());
@@ -54,6 +54,16 @@ pub(crate) fn eight_to_a_lane() -> [Step; 40] {
         (Call::At(first, 7), message(8).map(Answer::Shown)),
         (Call::At(first, 8), nothing),
         (Call::Drop(first, 9), nothing),
+    ]
+}
+
+// Goes on from there, twice round the lane; other lanes stay as they were.
+pub(crate) fn twice_round() -> [Step; 21] {
+    let done = Ok(Answer::Done);
+    let full = Err(LaneFault::Full.refusal());
+    let first = lane(1, 2, 0);
+    let other = lane(2, 1, 6);
+    [
         (Call::Drop(first, 7), done),
         (Call::At(first, 0), message(8).map(Answer::Shown)),
         (Call::Send(first, message(9)), done),

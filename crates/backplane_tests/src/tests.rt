@@ -1,4 +1,4 @@
-use crate::steps::{eight_to_a_lane, lane, message, miss_lanes, walk};
+use crate::steps::{eight_to_a_lane, lane, message, miss_lanes, twice_round, walk};
 use backplane::{Backplane, LaneFault, find_room, send_all};
 use frame_box::FrameBox;
 use frames::slot::SLOT;
@@ -11,6 +11,7 @@ use std::test::Fail;
 fn keeps_lanes<B: Backplane>(rt: &impl Abort, backplane: &mut B) -> Result<(), Fail> {
     assert!(rt; backplane.cards() == 3 && backplane.capacity() == 8);
     walk(rt, backplane, &eight_to_a_lane())?;
+    walk(rt, backplane, &twice_round())?;
     miss_lanes(rt, backplane)?;
     assert_eq!(rt;
         send_all(backplane, lane(3, 1, 4), &[message(1)?, message(2)?]),

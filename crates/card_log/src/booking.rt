@@ -6,7 +6,7 @@ ghost use Rattle.cards.specs.Faults.{replied};
 ghost use Rattle.card_log.specs.Parts.{submit_log};
 
 use cards::CardFault;
-use cards::booking::place;
+use cards::booking::accept_next;
 use frames::{Entry, Words};
 use logs::Log;
 use marks::Header;
@@ -24,11 +24,15 @@ pub fn submit(
     ensures part { (replied Placed result, (card.new, logged log.new, tally.new)) ≡ submit_log (length log.old.places.now) queue payload (card.old, logged log.old, tally.old) }
     ensures stays { OnErr result (Untouched log.old log.new) }
 {
-    let mut own = *card;
-    let header = place(&mut own, log.is_full(), *tally)?;
-    let entry = Entry::new(header, queue, payload).map_err(|_| CardFault::Malformed)?;
+    // Kept: the card itself, whose accepted is put back where there is no entry. A copy of the card for the case that never
+    // comes costs more than all else here.
+    let before = card.accepted;
+    let header = accept_next(card, log.is_full(), *tally)?;
+    let Ok(entry) = Entry::new(header, queue, payload) else {
+        card.accepted = before;
+        return Err(CardFault::Malformed);
+    };
     log.append(entry).unwrap();
-    *card = own;
     *tally += 1;
     Ok(header)
 }

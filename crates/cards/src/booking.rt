@@ -1,7 +1,7 @@
 // submit and commit, on the card alone.
 ghost use Rattle.std.specs.Prelude.{◌≡◌};
 ghost use Rattle.protocol.specs.Rows.{accept_rows};
-ghost use Rattle.protocol.specs.Committing.{reached, supported};
+ghost use Rattle.protocol.specs.Committing.{last_of_epoch, reached, supported};
 ghost use Rattle.protocol.specs.declared.answer.Answer.TheVariants.{Placed};
 ghost use Rattle.cards.specs.Faults.{replied};
 ghost use Rattle.cards.specs.Parts.{of_cards, submit_part};
@@ -15,8 +15,8 @@ use protocol::{Card, Role, is_majority};
 
 // Kept: a call's checks stand in it one by one, in the order of their refusals' numbers, as its definition lists them. A
 // function for each would take the order out of sight.
-// The header of the next entry, which the card accepts. `full` says that its log has no room for one.
-pub fn place(card: &mut Card, full: bool, tally: u64) -> Result<Header, CardFault>
+// Accepts the next entry, and gives its header. `full` says that its log has no room for one.
+pub fn accept_next(card: &mut Card, full: bool, tally: u64) -> Result<Header, CardFault>
     ensures { (replied Placed result, card.new) ≡ submit_part full tally card.old }
 {
     if card.stopped {
@@ -40,8 +40,13 @@ impl Member {
     fn accepts_reached(self, card: &Card) -> usize
         ensures { result ≡ reached card.now (accept_rows (card_count self.size) self.number card.now.accepted card.now.peers) }
     {
-        let rows = card.peers.known_rows(self.number, card.accepted);
-        count_reached(card, self.in_rack(&rows))
+        card.peers.known_between(
+            self.number,
+            card.accepted,
+            self.size.cards(),
+            card.next,
+            last_of_epoch(card),
+        )
     }
 
     // Whether next may be delivered: a leader goes by the accept rows, a follower by its leader's commit row.
@@ -56,9 +61,16 @@ impl Member {
     }
 }
 
+// The highest header of the current epoch that a row can hold.
+fn last_of_epoch(card: &Card) -> Header
+    ensures { result ≡ last_of_epoch card.now }
+{
+    header_in(card.current, u32::MAX)
+}
+
 // How many of some rows lie in the current epoch, at or above next.
 fn count_reached(card: &Card, rows: &[Header]) -> usize
     ensures { result ≡ reached card.now rows.now }
 {
-    count_between(card.next, header_in(card.current, u32::MAX), rows)
+    count_between(card.next, last_of_epoch(card), rows)
 }

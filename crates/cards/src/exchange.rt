@@ -16,6 +16,7 @@ use refusals::Refusal;
 
 // Kept: a number for a kind. It is also the number of the lane, any number may be asked for, and `Kind::try_from` would take
 // 1 to 3 as well and refuse the rest by 8, where the rule asks for other refusals.
+#[inline(always)]
 fn row_frame(card: &Card, kind: u8) -> Result<Frame, Refusal>
     ensures { result ≡ frame_from (own_row card.now kind) }
 {
@@ -36,6 +37,8 @@ fn is_undue(card: &Card, kind: u8) -> bool
 }
 
 // The card's own row of a kind, as a frame.
+// Inlined: the frame goes on to a backplane at once, and need not be written to memory in between.
+#[inline(always)]
 pub fn own_row(card: &Card, kind: u8) -> Result<Frame, CardFault>
     ensures { result ≡ row_part kind card.now }
 {

@@ -9,7 +9,7 @@ ghost use Rattle.cards.specs.Sizes.{card_count};
 
 use crate::member::Member;
 use marks::Vote;
-use marks::rows::{count_between, largest};
+use marks::rows::largest;
 use protocol::{Card, is_majority};
 
 impl Member {
@@ -32,8 +32,9 @@ impl Member {
     fn equal_votes(self, card: &Card) -> usize
         ensures { result ≡ count_between vote_up_to card.now.vote card.now.vote (vote_rows (card_count self.size) self.number card.now.vote card.now.peers) }
     {
-        let rows = card.peers.known_rows(self.number, card.vote);
-        count_between(card.vote, card.vote, self.in_rack(&rows))
+        let vote = card.vote;
+        card.peers
+            .known_between(self.number, vote, self.size.cards(), vote, vote)
     }
 
     // A majority of vote rows equals the card's vote, and it leads that epoch.

@@ -14,7 +14,7 @@ use refusals::Refusal;
 // Kept: a call's checks stand in it one by one, in the order of their refusals' numbers, as its definition lists them. A
 // function for each would take the order out of sight.
 impl Member {
-    // The least epoch that the card leads above its new epoch and the largest vote's, if there is one.
+    // The least epoch that the card leads above its newest epoch and the largest vote's, if there is one.
     fn standing_epoch(self, card: &Card) -> Result<Epoch, Refusal>
         ensures { result ≡ standing_epoch (of_cards self.size) self.number card.now }
     {

@@ -1,4 +1,4 @@
-// What a line asks: the rack's size, a card, its new epoch and accepted header, and every card's vote row.
+// What a line asks: the rack's size, a card, its newest epoch and accepted header, and every card's vote row.
 use marks::{Epoch, Header, Vote, is_epoch, is_header};
 use numerals::number;
 use std::alloc::{AllocError, Global};

@@ -1,35 +1,21 @@
 -- A row becomes a frame exactly where its numbers are a frame's.
-use Rattle.std.proofs.Common.{◌≡◌, ℕ, Bool, true, false, ◌&&◌, ◌||◌, eqb, ◌⊎◌, Ok, Err, Result, sym, refl, ap, ◌∙◌, ⊎_elim, arith}
-use Rattle.std.proofs.lemmas.Bool.Decides.{nat_tests}
+use Rattle.std.proofs.Common.{◌≡◌, ℕ, Bool, true, false, Ok, Err, Result, sym, refl, ap, ◌∙◌, arith}
 use Rattle.refusals.specs.declared.Refusal.{Refusal}
 use Rattle.frames.specs.declared.frame.Frame.{Frame}
-use Rattle.frames.specs.Fields.{FrameFields, is_frame, carries_entry, carries_diff, carries_header, carries_vote}
-use Rattle.frames.specs.Kinds.{kind_number}
-use Rattle.frames.specs.Made.{kind_at, with_kind, frame_from}
+use Rattle.frames.specs.Fields.{FrameFields, is_frame}
+use Rattle.frames.specs.Made.{kind_at, frame_from}
 use Rattle.frames.specs.Views.{frame_fields}
-use Rattle.frames.proofs.Reading.{made_from, from_made}
+use Rattle.frames.proofs.Reading.{same_fields, made_from, from_made}
 use Rattle.cards.specs.Parts.{framed}
 use Rattle.cards.specs.declared.fault.CardFault.{CardFault}
 use Rattle.cards.specs.declared.fault.CardFault.TheVariants as fault
 
-six : (k : ℕ) (a b c d : Bool) → (((eqb k 1 || eqb k 3) && a) || ((eqb k 2 && b) || (((eqb k 4 || eqb k 6) && c) || (eqb k 5 && d)))) ≡ true → (k ≡ 1) ⊎ ((k ≡ 2) ⊎ ((k ≡ 3) ⊎ ((k ≡ 4) ⊎ ((k ≡ 5) ⊎ (k ≡ 6)))))
-six k a b c d h = grind (arith, nat_tests)
-
-kind_known : (k : ℕ) → (k ≡ 1) ⊎ ((k ≡ 2) ⊎ ((k ≡ 3) ⊎ ((k ≡ 4) ⊎ ((k ≡ 5) ⊎ (k ≡ 6))))) → kind_number (kind_at k) ≡ k
-kind_known k h = ⊎_elim (at 1 refl) (⊎_elim (at 2 refl) (⊎_elim (at 3 refl) (⊎_elim (at 4 refl) (⊎_elim (at 5 refl) (at 6 refl))))) h
-  where
-    at : (n : ℕ) → kind_number (kind_at n) ≡ n → k ≡ n → kind_number (kind_at k) ≡ k
-    at n is e = ap (λ m. kind_number (kind_at m)) e ∙ is ∙ sym e
-
 -- the numbers of a frame make that frame
-pub framed_ok : (f : FrameFields) → is_frame f ≡ true → (g : Frame) × (frame_from f ≡ Ok g) × (frame_fields g ≡ f)
-framed_ok f h = (g, made_from f g same, same)
+framed_ok : (f : FrameFields) → is_frame f ≡ true → (g : Frame) × (frame_from f ≡ Ok g)
+framed_ok f h = (g, made_from f g (same_fields f h))
   where
-    same : with_kind f ≡ f
-    same = λ i. record { kind = kind_known f.kind (six f.kind (carries_entry f) (carries_diff f) (carries_header f) (carries_vote f) h) i; round = f.round; leader = f.leader; count = f.count; w1 = f.w1; w2 = f.w2; w3 = f.w3; w4 = f.w4 }
-
     g : Frame
-    g = record { kind = kind_at f.kind; round = f.round; leader = f.leader; count = f.count; w1 = f.w1; w2 = f.w2; w3 = f.w3; w4 = f.w4; well = ap is_frame same ∙ h }
+    g = record { kind = kind_at f.kind; round = f.round; leader = f.leader; count = f.count; w1 = f.w1; w2 = f.w2; w3 = f.w3; w4 = f.w4; well = ap is_frame (same_fields f h) ∙ h }
 
 -- a row that was made has its numbers
 made_by : (r : Result Frame Refusal) (g : Frame) → Ok g ≡ framed r → r ≡ Ok g

@@ -4,3 +4,4 @@ pub mod Reading
 pub mod Filling
 pub mod Parsing
 pub mod Numbers
+pub mod Tail

@@ -125,7 +125,7 @@ known k = by (eqb k 1) (eqb k 2) (eqb k 3) (eqb k 4) (eqb k 5)
 spelled : (k : ℕ) (a b c d : Bool) → (((eqb k 1 || eqb k 3) && a) || ((eqb k 2 && b) || (((eqb k 4 || eqb k 6) && c) || (eqb k 5 && d)))) ≡ true → kind_number (kind_at k) ≡ k
 spelled k a b c d h = known k ∙ grind (arith, nat_tests)
 
-same_fields : (f : FrameFields) → is_frame f ≡ true → with_kind f ≡ f
+pub same_fields : (f : FrameFields) → is_frame f ≡ true → with_kind f ≡ f
 same_fields f h = λ i. record { kind = spelled f.kind (carries_entry f) (carries_diff f) (carries_header f) (carries_vote f) h i; round = f.round; leader = f.leader; count = f.count; w1 = f.w1; w2 = f.w2; w3 = f.w3; w4 = f.w4 }
 
 ok_same : (x y : Frame) → ◌≡◌ {A = Result Frame Refusal} (Ok x) (Ok y) → x ≡ y

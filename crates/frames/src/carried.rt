@@ -10,7 +10,6 @@ use crate::{Entry, Frame, Kind};
 use marks::{Epoch, Header, Vote, epoch_of};
 
 impl Frame {
-    // The fields in their order.
     pub fn fields(&self) -> [u64; 8]
         ensures { result ≡ field_list (frame_fields self.now) }
     {
@@ -38,7 +37,6 @@ impl Frame {
         epoch_of(self.header())
     }
 
-    // The entry in a message or in a diff's frame.
     pub fn entry(&self) -> Option<Entry>
         ensures { option_map entry_fields result ≡ carried_entry (frame_fields self.now) }
     {
@@ -60,7 +58,6 @@ impl Frame {
         (self.w1 as u32, self.w2 as u8, self.w3 as u32)
     }
 
-    // The base in a diff's head.
     pub fn base(&self) -> Option<Header>
         ensures { result ≡ carried_base (frame_fields self.now) }
     {
@@ -70,7 +67,6 @@ impl Frame {
         }
     }
 
-    // The vote in a vote row.
     pub fn vote(&self) -> Option<Vote>
         ensures { result ≡ carried_vote (frame_fields self.now) }
     {

@@ -66,6 +66,9 @@ fn word(number: i128) -> Result<u64, Refusal>
     u64::try_from(number).or(Err(Refusal::Malformed))
 }
 
+// Inlined, as the two below: called, each takes header and words from memory, and a reader of slots would have to write
+// them there first.
+#[inline(always)]
 fn carries_diff(header: Header, words: FrameWords) -> bool
     ensures { result ≡ carries_diff (fields_of 2 header words) }
 {
@@ -73,12 +76,14 @@ fn carries_diff(header: Header, words: FrameWords) -> bool
     is_card(leader) && count == 0 && words.3 <= MOST_ENTRIES && words_hold_header(words)
 }
 
+#[inline(always)]
 fn carries_header(header: Header, words: FrameWords) -> bool
     ensures { result ≡ carries_header (fields_of 4 header words) }
 {
     words == (0, 0, 0, 0) && is_header(header)
 }
 
+#[inline(always)]
 fn carries_vote(header: Header, words: FrameWords) -> bool
     ensures { result ≡ carries_vote (fields_of 5 header words) }
 {
@@ -106,6 +111,8 @@ fn carrying(kind: Kind, entry: Entry) -> Frame
 
 impl Frame {
     // The frame of this kind with these numbers; 8 where they are no frame's.
+    // Inlined, as the two below: a frame is handed on through all three, and would be copied at each.
+    #[inline(always)]
     pub fn of(kind: Kind, header: Header, words: FrameWords) -> Result<Frame, Refusal>
         ensures { result ≡ frame_from (fields_of (kind_number kind) header words) }
     {
@@ -131,6 +138,7 @@ impl Frame {
     }
 
     // The same, from a kind's number; 8 where it is no kind's.
+    #[inline(always)]
     pub fn new(kind: u8, header: Header, words: FrameWords) -> Result<Frame, Refusal>
         ensures { result ≡ frame_from (fields_of kind header words) }
     {
@@ -138,6 +146,7 @@ impl Frame {
     }
 
     // The same, from the fields in their order; 8 for one that is too large.
+    #[inline(always)]
     pub fn from_fields(fields: [u64; 8]) -> Result<Frame, Refusal>
         ensures { result ≡ frame_from (from_list fields) }
     {

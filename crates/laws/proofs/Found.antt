@@ -13,8 +13,8 @@ use Rattle.marks.specs.Order.{header_below, header_up_to}
 use Rattle.frames.specs.Fields.{EntryFields}
 use Rattle.protocol.specs.Booking.{is_header, entry_at, inside}
 use Rattle.protocol.specs.Committing.{last_header}
-use Rattle.laws.proofs.Base.{hn, kept_all, kept_none, below_header, not_below_header}
-use Rattle.laws.proofs.Inv.{Past, hist, Numbered, Before, Beyond, Sound}
+use Rattle.laws.proofs.Base.{en, hn, kept_all, kept_none, below_header, not_below_header}
+use Rattle.laws.proofs.Inv.{Past, hist, Numbered, Before, Beyond, Sound, View, CardOk}
 use Rattle.laws.specs.Laws.{Rising}
 use Rattle.laws.proofs.Past.{numbered_front, sent_later}
 
@@ -88,6 +88,11 @@ in_log H n W r l k m x small w f =
 
     late : (y : EntryFields) → ((j : ℕ) → y.header.2 ≡ suc (0 + j) → (j < length (take m (H.sent (r * 8 + l)))) × (take (suc j) (take m (H.sent (r * 8 + l))) ≡ take j (take m (H.sent (r * 8 + l))) ++ y ∷ [])) → Q y
     late y f q = f k (omega (arith, ap (λ (t : Header). t.2) q))
+
+-- the same in the log of a card, of its current epoch
+module _ {H : Past} {n i : ℕ} {v : View} {log d : List EntryFields} (W : Sound H n) (C : CardOk H n i v log d) where
+  pub in_current : (k : ℕ) (x : EntryFields) → entry_at (v.current.0, v.current.1, suc k) log ≡ Some x → InLog H (en v.current) k v.accepted.2 (v.current.0, v.current.1, suc k) x
+  in_current k x f = in_log H n W v.current.0 v.current.1 k v.accepted.2 x C.cur_led C.cur_won (subst (λ ys. entry_at (v.current.0, v.current.1, suc k) ys ≡ Some x) C.log_is f)
 
 kept_same : {X : Type 0} (p q : X → Bool) (xs : List X) → AllByRecursion (λ x. p x ≡ q x) xs → filter p xs ≡ filter q xs
 kept_same p q [] h = refl

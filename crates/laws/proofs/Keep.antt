@@ -1,9 +1,9 @@
 -- How a call that one card carries out keeps the invariant.
-use Rattle.std.proofs.Common.{◌≡◌, ℕ, zero, suc, ◌+◌, ◌≤◌, Bool, true, false, cond, ◌&&◌, leb, List, [], ◌∷◌, get_or, sym, refl, ◌∙◌, subst, ⊎_elim, arith}
+use Rattle.std.proofs.Common.{◌≡◌, ℕ, zero, suc, ◌+◌, ◌≤◌, Bool, true, false, cond, ◌&&◌, leb, List, get_or, sym, refl, ◌∙◌, subst, ⊎_elim, arith}
 use Rattle.std.specs.List.{AllByRecursion}
 use Rattle.std.proofs.ByRecursion.{All-weaker}
 use Rattle.std.proofs.lemmas.Bool.{cases_eq, and_parts, leb-true, true≢false, not-false}
-use Rattle.marks.specs.Rows.{largest_of, count_between}
+use Rattle.marks.specs.Rows.{count_between}
 use Rattle.frames.specs.Fields.{EntryFields}
 use Rattle.protocol.specs.Rows.{blank_row, rows_of}
 use Rattle.protocol.specs.Rack.{Sizes, State, at, at_lane, no_card}
@@ -93,15 +93,6 @@ lane_other P j r k a f ne old x y =
     at_all (λ x (g : ℕ → ℕ → _). P x y (g y 0)) j (at r (at k a (f j r)) (f j)) f
     (at_all (λ y (g : ℕ → _). P j y (g 0)) r (at k a (f j r)) (f j) (subst (P j r) (sym (at_other k a (f j r) 0 ne)) (old j r)) (λ y _. old j y) y) (λ x _. old x y) x
 
--- the largest of some rows is one of them
-pub largest_one : {A : Type 0} (P : A → Type 0) (up_to : A → A → Bool) (x : A) (xs : List A) → P x → AllByRecursion P xs → P (largest_of up_to x xs)
-largest_one P up_to x [] p h = p
-largest_one P up_to x (y ∷ ys) p h = largest_one P up_to _ ys (pick (up_to x y)) h.1
-  where
-    pick : (b : Bool) → P (cond b y x)
-    pick true = h.0
-    pick false = p
-
 -- rows that pass a test are at most as many as the cards that meet it
 pub count_bound : {A : Type 0} (up_to : A → A → Bool) (low high : A) (row : ℕ → A) (n : ℕ) (p : ℕ → Bool) → ((k : ℕ) → up_to low (row (suc k)) && up_to (row (suc k)) high ≡ true → p k ≡ true) → count_between up_to low high (rows_of row n) ≤ how_many p n
 count_bound up_to low high row zero p h = omega arith
@@ -112,7 +103,3 @@ count_bound up_to low high row (suc n) p h = one (up_to low (row 1) && up_to (ro
     one true false i l = absurd (true≢false (sym (i refl)))
     one false true i l = omega arith
     one false false i l = omega arith
-
-pub all_rows : {A : Type 0} (P : A → Type 0) (row : ℕ → A) (n : ℕ) → ((j : ℕ) → P (row j)) → AllByRecursion P (rows_of row n)
-all_rows P row zero h = tt
-all_rows P row (suc n) h = (h 1, all_rows P (λ j. row (suc j)) n (λ j. h (suc j)))

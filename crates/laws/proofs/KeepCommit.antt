@@ -22,7 +22,7 @@ use Rattle.protocol.proofs.Asked.{Passed}
 use Rattle.laws.proofs.Keep.{acted, frames_keep, waits_keep, rows_keep, count_bound}
 use Rattle.laws.proofs.Tables.{row_ok, peer_row}
 use Rattle.laws.proofs.KeepVoting.{Kept, acc_num, acc_led}
-use Rattle.laws.proofs.Found.{InLog, in_log, inside_start, keeps_first, keeps_second, last_of, last_append, upto_not_below, rising_last}
+use Rattle.laws.proofs.Found.{InLog, in_current, inside_start, keeps_first, keeps_second, last_of, last_append, upto_not_below, rising_last}
 
 lt_from : {a b c d e f : ℕ} → Up a b c d → Lt c d e f → Lt a b e f
 lt_from u w = record { epoch = omega (arith, u.epoch, w.epoch); count = λ q. omega (arith, u.count (omega (arith, u.epoch, w.epoch, q)), w.count (omega (arith, u.epoch, w.epoch, q))) }
@@ -44,9 +44,6 @@ module _ {S : Type 0} (z : Sizes) (meets : Meets z.cards) (H : Past) (s : State 
   C : CardOk H z.cards i (view (s.cards i)) (s.logs i) (d i)
   C = I.card i
 
-  num : hn (s.cards i).accepted ≡ en (s.cards i).current
-  num = acc_num H z.cards i (view (s.cards i)) (s.logs i) (d i) I.sound C
-
   abbrev e : ℕ
   e = en (s.cards i).current
 
@@ -58,7 +55,7 @@ module _ {S : Type 0} (z : Sizes) (meets : Meets z.cards) (H : Past) (s : State 
       accepts k = by (eqb (suc k) i) refl
         where
           by : (b : Bool) → eqb (suc k) i ≡ b → AcceptOk H (suc k) (cond b (s.cards i).accepted (row_of (s.cards i).peers (suc k)).accept)
-          by true q = subst (λ x. AcceptOk H x (s.cards i).accepted) (sym (eqb-true (suc k) i q)) (record { led = acc_led H z.cards i (view (s.cards i)) (s.logs i) (d i) I.sound C; accepted = omega (arith, ap (H.top i) num, C.top_cur) })
+          by true q = subst (λ x. AcceptOk H x (s.cards i).accepted) (sym (eqb-true (suc k) i q)) (record { led = acc_led C; accepted = omega (arith, ap (H.top i) (acc_num C), C.top_cur) })
           by false q = (peer_row H z.cards I.sound (s.cards i).peers (I.row i) k).accept
 
       each : (k : ℕ) (h : Header) → AcceptOk H (suc k) h → header_up_to (s.cards i).next h && header_up_to h (last_of_epoch (s.cards i)) ≡ true → ltb (s.cards i).next.2 (H.top (suc k) (en (s.cards i).current)) ≡ true
@@ -143,7 +140,7 @@ module _ {S : Type 0} (z : Sizes) (meets : Meets z.cards) (H : Past) (s : State 
       k = (H.mark i).1
 
       found : InLog H (en (s.cards i).current) k (s.cards i).accepted.2 ((s.cards i).current.0, (s.cards i).current.1, suc k) x
-      found = in_log H z.cards I.sound (s.cards i).current.0 (s.cards i).current.1 k (s.cards i).accepted.2 x C.cur_led C.cur_won (subst (λ h. entry_at h (hist H (en (s.cards i).current) (s.cards i).accepted.2) ≡ Some x) (next_is (suc k) (sym (C.mark_next more).1)) (subst (λ ys. entry_at (s.cards i).next ys ≡ Some x) C.log_is f))
+      found = in_current I.sound C k x (subst (λ h. entry_at h (s.logs i) ≡ Some x) (next_is (suc k) (sym (C.mark_next more).1)) f)
 
   due_ok : Chosen H z.cards e (s.cards i).next.2 → not (opens_epoch (s.cards i)) && eqb (length (due_entries (s.cards i) (s.logs i))) 0 ≡ false → DueOk (due_entries (s.cards i) (s.logs i))
   due_ok c t = by (opens_epoch (s.cards i)) refl t

@@ -39,11 +39,8 @@ module _ {S : Type 0} (z : Sizes) (meets : Meets z.cards) (H : Past) (s : State 
   C : CardOk H z.cards i (view (s.cards i)) (s.logs i) (d i)
   C = I.card i
 
-  num : hn (s.cards i).accepted ≡ en (s.cards i).current
-  num = acc_num H z.cards i (view (s.cards i)) (s.logs i) (d i) I.sound C
-
   own_ok : (kind : ℕ) → (kind ≡ 4) ⊎ ((kind ≡ 5) ⊎ (kind ≡ 6)) → eqb kind 6 && not (epoch_same (epoch_of (s.cards i).committed) (s.cards i).current) ≡ false → FrameOk H z.cards i (own_row (s.cards i) kind)
-  own_ok kind (inl four) due = subst (λ k. FrameOk H z.cards i (own_row (s.cards i) k)) (sym four) (record { accept = λ _. record { led = acc_led H z.cards i (view (s.cards i)) (s.logs i) (d i) I.sound C; accepted = omega (arith, ap (H.top i) num, C.top_cur) }; vote = λ e. absurd (omega (arith, e)); commit = λ e. absurd (omega (arith, e)) })
+  own_ok kind (inl four) due = subst (λ k. FrameOk H z.cards i (own_row (s.cards i) k)) (sym four) (record { accept = λ _. record { led = acc_led C; accepted = omega (arith, ap (H.top i) (acc_num C), C.top_cur) }; vote = λ e. absurd (omega (arith, e)); commit = λ e. absurd (omega (arith, e)) })
   own_ok kind (inr (inl five)) due = subst (λ k. FrameOk H z.cards i (own_row (s.cards i) k)) (sym five) (record { accept = λ e. absurd (omega (arith, e)); vote = λ _. record { led = C.vote_led; cast = C.vote_cast; header = C.vote_head }; commit = λ e. absurd (omega (arith, e)) })
   own_ok kind (inr (inr six)) due = subst (λ k. FrameOk H z.cards i (own_row (s.cards i) k)) (sym six) (record { accept = λ e. absurd (omega (arith, e)); vote = λ e. absurd (omega (arith, e)); commit = λ _. record { led = C.com_led; chosen = C.com_chosen here; accepted = omega (arith, C.com_upto.count here, ap (H.top i) here, C.top_cur) } })
     where

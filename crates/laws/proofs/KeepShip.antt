@@ -11,14 +11,14 @@ use Rattle.protocol.specs.Rack.{Sizes, State, is_leader, no_card, no_peer}
 use Rattle.frames.specs.Carried.{entry_frame}
 use Rattle.protocol.specs.Booking.{entry_at, inside, diff_entries, message_frames, shipment, shipped_after, shipment_to, with_peers, ship_checks, shipped}
 use Rattle.protocol.specs.declared.card.Card.{Card}
-use Rattle.laws.proofs.Base.{en, hn, at_same, at_other}
-use Rattle.laws.proofs.Inv.{Past, hist, view, CardOk, RowOk, FrameOk, Parcel, message, diff, frames_of, laid, MessageOk, ParcelOk, Waiting, Inv}
+use Rattle.laws.proofs.Base.{hn, at_same, at_other}
+use Rattle.laws.proofs.Inv.{Past, view, CardOk, RowOk, FrameOk, Parcel, message, diff, frames_of, laid, MessageOk, ParcelOk, Waiting, Inv}
 use Rattle.laws.proofs.Past.{Meets}
 use Rattle.protocol.proofs.Asked.{Passed}
 use Rattle.laws.proofs.Keep.{card_within, same_grows, same_still, acted, lane_all, lane_zero}
 use Rattle.laws.proofs.Tables.{row_ok, ship_ok}
 use Rattle.laws.proofs.KeepVoting.{Kept}
-use Rattle.laws.proofs.Found.{InLog, in_log, inside_start}
+use Rattle.laws.proofs.Found.{InLog, in_current, inside_start}
 
 -- one parcel more at the end of a lane
 laid_more : (ps : List Parcel) (p : Parcel) → laid (ps ++ p ∷ []) ≡ laid ps ++ frames_of p
@@ -105,11 +105,8 @@ module _ {S : Type 0} (z : Sizes) (meets : Meets z.cards) (H : Past) (s : State 
           plus : k + 1 ≡ suc k
           plus = omega arith
 
-          found : InLog H (en (s.cards i).current) k (s.cards i).accepted.2 ((s.cards i).current.0, (s.cards i).current.1, suc k) x
-          found = in_log H z.cards I.sound (s.cards i).current.0 (s.cards i).current.1 k (s.cards i).accepted.2 x C.cur_led C.cur_won (subst (λ (m : ℕ). entry_at ((s.cards i).current.0, (s.cards i).current.1, m) (hist H (en (s.cards i).current) (s.cards i).accepted.2) ≡ Some x) plus (subst (λ ys. entry_at h ys ≡ Some x) C.log_is e))
-
           ok : MessageOk H i x
-          ok = message_ok H i (s.cards i).current.0 (s.cards i).current.1 k (s.cards i).accepted.2 x C.cur_led (C.leads leading) C.cur_won found
+          ok = message_ok H i (s.cards i).current.0 (s.cards i).current.1 k (s.cards i).accepted.2 x C.cur_led (C.leads leading) C.cur_won (in_current I.sound C k x (subst (λ (m : ℕ). entry_at ((s.cards i).current.0, (s.cards i).current.1, m) (s.logs i) ≡ Some x) plus e))
 
   pub ship_keeps : Kept z.cards H (shipped i j s) d
   ship_keeps =

@@ -200,7 +200,7 @@ module _ {S : Type 0} (z : Sizes) (meets : Meets z.cards) (H : Past) (s : State 
         move = move_within H z.cards i (en e) 0 (H.sent (en e)) I.sound D.won (omega (arith, higher)) (omega arith) (λ _ _. refl) (omega arith) (⊎_elim (λ t. absurd (omega (arith, higher, C.top_below (en e) t))) (λ t. omega arith) (cases_lt 0 (H.top i (en e)))) (I.sound.numbered _ D.won) (λ y c. omega (arith, C.cast_below y c, not_low)) (λ _. refl)
 
         upto : Up (hn b) b.2 (en (s.cards i).current) (s.cards i).accepted.2
-        upto = subst (λ m. Up (hn b) b.2 m (s.cards i).accepted.2) (acc_num H z.cards i (view (s.cards i)) (s.logs i) (d i) I.sound C) (accepted_most H z.cards i (view (s.cards i)) (s.logs i) (d i) I.sound C (hn b) b.2 D.from.accepted)
+        upto = subst (λ m. Up (hn b) b.2 m (s.cards i).accepted.2) (acc_num C) (accepted_most C (hn b) b.2 D.from.accepted)
 
         log_is : kept_up_to b (s.logs i) ++ xs ≡ H.start (en e) ++ []
         log_is = installed_is H z.cards meets I.sound (en e) (en (s.cards i).current) (s.cards i).accepted.2 b (s.logs i) xs D.from.led D.from.chosen D.won C.cur_won upto (omega (arith, upto.epoch, higher)) C.log_is D.is ∙ sym (append-nil (H.start (en e)))

@@ -12,23 +12,19 @@ use Rattle.marks.specs.Orders.{vote_order}
 use Rattle.marks.specs.Order.{left_first, epoch_up_to, header_up_to, vote_up_to}
 use Rattle.frames.specs.Fields.{EntryFields}
 use Rattle.protocol.specs.Rows.{row_of, vote_of, vote_rows}
-use Rattle.protocol.specs.Rack.{Sizes, State, at, with_card, is_electing, is_leader}
+use Rattle.protocol.specs.Rack.{Sizes, State, at, with_card, is_electing}
 use Rattle.protocol.specs.Voting.{largest_vote, later_epoch, standing_epoch, stood_in, timeout_epoch, timed_out, timeout_checks, stands, joins, joined_to, elected, elect_checks}
 use Rattle.protocol.specs.declared.card.Card.{Card}
 use Rattle.protocol.specs.declared.card.Role.{Role}
-use Rattle.protocol.specs.declared.card.Role.TheVariants.{Electing, Leader, Follower}
+use Rattle.protocol.specs.declared.card.Role.TheVariants.{Electing}
 use Rattle.laws.proofs.Base.{en, hn, Up, at_same, at_other, at_all, upto_num, same_num, leader_num, header_below_false, and_second}
 use Rattle.laws.proofs.Inv.{Past, Sound, View, view, CardOk, VoteOk, Inv, Grows}
 use Rattle.laws.proofs.Past.{Meets}
 use Rattle.laws.proofs.Moves.{balloted, Ballot, balloted_still, balloted_grows, balloted_sound}
 use Rattle.protocol.proofs.Asked.{Passed}
-use Rattle.laws.proofs.Keep.{same_grows, same_still, Acted, acted, frames_keep, waits_keep, rows_keep, largest_one, all_rows}
+use Rattle.protocol.proofs.Cards.{not_both, each_row, largest_one}
+use Rattle.laws.proofs.Keep.{same_grows, same_still, Acted, acted, frames_keep, waits_keep, rows_keep}
 use Rattle.laws.proofs.Tables.{row_ok}
-
-not_both : (r : Role) → is_electing r ≡ true → is_leader r ≡ true → ⊥
-not_both Electing a b = true≢false (sym b)
-not_both Leader a b = true≢false (sym a)
-not_both Follower a b = true≢false (sym a)
 
 -- what a call leaves: a past that has grown, and the invariant
 abbrev pub Kept : {S : Type 0} → ℕ → Past → State S → (ℕ → List EntryFields) → Type 0
@@ -62,7 +58,7 @@ later_upto a b h k = by (epoch_up_to a b) (upto_num a.0 a.1 b.0 b.1 h k)
     by true e = (k, leb-true (en a) (en b) (sym e), omega arith)
     by false e = (h, omega arith, omega (arith, leb-false (en a) (en b) (sym e)))
 
-module _ (H : Past) (n i : ℕ) (v : View) (log d : List EntryFields) (W : Sound H n) (C : CardOk H n i v log d) where
+module _ {H : Past} {n i : ℕ} {v : View} {log d : List EntryFields} (C : CardOk H n i v log d) where
   pub acc_num : hn v.accepted ≡ en v.current
   acc_num = ap en C.acc_cur
 
@@ -73,14 +69,15 @@ module _ (H : Past) (n i : ℕ) (v : View) (log d : List EntryFields) (W : Sound
   pub accepted_most : (E k : ℕ) → k < H.top i E → Up E k (hn v.accepted) v.accepted.2
   accepted_most E k t = record { epoch = omega (arith, C.top_below E (omega (arith, t)), acc_num); count = λ q. omega (arith, t, ap (H.top i) (q ∙ acc_num), C.top_cur) }
 
-  -- a ballot for an epoch above the card's new one that the card leads
+module _ (H : Past) (n i : ℕ) (v : View) (log d : List EntryFields) (W : Sound H n) (C : CardOk H n i v log d) where
+  -- a ballot for an epoch above the card's newest one that the card leads
   own_ballot : (e : Epoch) → e.1 ≡ i → e.1 < 8 → en v.newest < en e → Ballot H i (en e) v.accepted
   own_ballot e led small over = record {
-    led = acc_led;
-    below = omega (arith, acc_num, C.cur_new, over);
+    led = acc_led C;
+    below = omega (arith, acc_num C, C.cur_new, over);
     agrees = λ j c. absurd (fresh j c);
     leader = inl leads;
-    promise = λ E k _ t. accepted_most E k t;
+    promise = λ E k _ t. accepted_most C E k t;
   }
     where
       leads : en e % 8 ≡ i
@@ -158,7 +155,7 @@ module _ {S : Type 0} (z : Sizes) (meets : Meets z.cards) (H : Past) (s : State 
   own_cast_ok = (i, record { led = (I.card i).vote_led; cast = (I.card i).vote_cast; header = (I.card i).vote_head })
 
   all_cast : AllByRecursion Cast (vote_rows z.cards i (s.cards i).vote (s.cards i).peers)
-  all_cast = all_rows Cast (vote_of i (s.cards i).vote (s.cards i).peers) z.cards each
+  all_cast = each_row Cast (vote_of i (s.cards i).vote (s.cards i).peers) z.cards each
     where
       each : (j : ℕ) → Cast (vote_of i (s.cards i).vote (s.cards i).peers j)
       each j = by (eqb j i)
@@ -248,7 +245,7 @@ module _ {S : Type 0} (z : Sizes) (meets : Meets z.cards) (H : Past) (s : State 
         below = subst (λ (x : Header). hn x < en e) (sym V.header) (I.sound.head_below j (en e) V.cast (omega (arith, over)));
         agrees = λ _ _. sym V.header;
         leader = inr (I.sound.leader_cast j (en e) V.cast (omega (arith, over)));
-        promise = λ E k _ t. up_trans (accepted_most H z.cards i (view (s.cards i)) (s.logs i) (d i) I.sound C E k t) (header_below_false h.0 h.1 h.2 (s.cards i).accepted.0 (s.cards i).accepted.1 (s.cards i).accepted.2 led (acc_led H z.cards i (view (s.cards i)) (s.logs i) (d i) I.sound C) low);
+        promise = λ E k _ t. up_trans (accepted_most C E k t) (header_below_false h.0 h.1 h.2 (s.cards i).accepted.0 (s.cards i).accepted.1 (s.cards i).accepted.2 led (acc_led C) low);
       }
 
       not_mine : e.1 ≡ i → ⊥

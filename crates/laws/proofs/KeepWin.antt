@@ -59,9 +59,6 @@ module _ {S : Type 0} (z : Sizes) (meets : Meets z.cards) (H : Past) (s : State 
   head_is : H.head (en (s.cards i).newest) ≡ (s.cards i).accepted
   head_is = ap (λ x. H.head (en x)) (sym vote_is) ∙ sym C.vote_head ∙ C.own_vote elects own
 
-  num : hn (s.cards i).accepted ≡ en (s.cards i).current
-  num = acc_num H z.cards i (view (s.cards i)) (s.logs i) (d i) I.sound C
-
   -- a row equal to the vote is a vote of its card for this epoch
   equal_vote : (j : ℕ) (v : Vote) → VoteOk H j v → vote_up_to (s.cards i).vote v && vote_up_to v (s.cards i).vote ≡ true → H.cast j (en (s.cards i).newest) ≡ true
   equal_vote j v ok t =
@@ -92,9 +89,9 @@ module _ {S : Type 0} (z : Sizes) (meets : Meets z.cards) (H : Past) (s : State 
     numbered = tt;
     voted = voted;
     own = subst (λ x. H.cast x (en (s.cards i).newest) ≡ true) (sym leads) (subst (λ x. H.cast i (en x) ≡ true) vote_is C.vote_cast);
-    begun = C.log_is ∙ ap (λ x. hist H x (s.cards i).accepted.2) (sym num) ∙ ap (λ (h : Header). hist H (hn h) h.2) (sym head_is);
-    from_won = subst (λ (h : Header). H.won (hn h) ≡ true) (sym head_is) (subst (λ x. H.won x ≡ true) (sym num) C.cur_won);
-    from_held = subst (λ (h : Header). h.2 ≤ length (H.sent (hn h))) (sym head_is) (subst (λ x. (s.cards i).accepted.2 ≤ length (H.sent x)) (sym num) C.acc_sent);
+    begun = C.log_is ∙ ap (λ x. hist H x (s.cards i).accepted.2) (sym (acc_num C)) ∙ ap (λ (h : Header). hist H (hn h) h.2) (sym head_is);
+    from_won = subst (λ (h : Header). H.won (hn h) ≡ true) (sym head_is) (subst (λ x. H.won x ≡ true) (sym (acc_num C)) C.cur_won);
+    from_held = subst (λ (h : Header). h.2 ≤ length (H.sent (hn h))) (sym head_is) (subst (λ x. (s.cards i).accepted.2 ≤ length (H.sent x)) (sym (acc_num C)) C.acc_sent);
     last_cast = C.cast_below;
     leader = λ ne. absurd (ne leads);
   }

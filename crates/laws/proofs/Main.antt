@@ -217,9 +217,9 @@ module _ {S : Type 0} (start : S) (apply : ℕ → Words → S → S) (z : Sizes
 
   submits_placing : (calls : List Call) (k : ℕ) (x : EntryFields) → Submits start apply z calls k x → Placing calls k x
   submits_placing calls k x w = record {
-    before = subst (λ (h : Header). h.2 ≡ suc (length ((past calls k).sent (hn h)))) header (omega (arith, C.leads_all leading, ap (λ m. length ((past calls k).sent m)) num));
-    won = subst (λ (h : Header). (past calls (suc k)).won (hn h) ≡ true) header (subst (λ m. (past calls (suc k)).won m ≡ true) (sym num) D.cur_won);
-    after = subst (λ (h : Header). h.2 ≤ length ((past calls (suc k)).sent (hn h))) header (subst (λ m. (s.cards i).accepted.2 + 1 ≤ length ((past calls (suc k)).sent m)) (sym num) D.acc_sent);
+    before = subst (λ (h : Header). h.2 ≡ suc (length ((past calls k).sent (hn h)))) header (omega (arith, C.leads_all leading, ap (λ m. length ((past calls k).sent m)) (acc_num C)));
+    won = subst (λ (h : Header). (past calls (suc k)).won (hn h) ≡ true) header (subst (λ m. (past calls (suc k)).won m ≡ true) (sym (acc_num C)) D.cur_won);
+    after = subst (λ (h : Header). h.2 ≤ length ((past calls (suc k)).sent (hn h))) header (subst (λ m. (s.cards i).accepted.2 + 1 ≤ length ((past calls (suc k)).sent m)) (sym (acc_num C)) D.acc_sent);
   }
     where
       i : ℕ
@@ -242,9 +242,6 @@ module _ {S : Type 0} (start : S) (apply : ℕ → Words → S → S) (z : Sizes
 
       leading : is_leader (s.cards i).role ≡ true
       leading = not-false _ r.0.1.1.1.0
-
-      num : hn (s.cards i).accepted ≡ en (s.cards i).current
-      num = acc_num (past calls k) z.cards i (view (s.cards i)) (s.logs i) (delivered_at start apply z calls k i) (inv calls k).sound C
 
       new : Card
       new = booking.accepted_up_to (booking.place_after (s.cards i).accepted) (s.cards i)
@@ -294,5 +291,5 @@ module _ {S : Type 0} (start : S) (apply : ℕ → Words → S → S) (z : Sizes
     newest_entered = λ calls k i. (ok calls k i).entered;
     accepted_current = λ calls k i. (ok calls k i).acc_cur;
     next_current = λ calls k i. (ok calls k i).next_cur;
-    committed_accepted = λ calls k i. let c = (state_at start apply z calls k).cards i in upto_header c.committed.0 c.committed.1 c.committed.2 c.accepted.0 c.accepted.1 c.accepted.2 (ok calls k i).com_led (acc_led (past calls k) z.cards i (view c) ((state_at start apply z calls k).logs i) (delivered_at start apply z calls k i) (inv calls k).sound (ok calls k i)) (subst (λ m. Up (hn c.committed) c.committed.2 m c.accepted.2) (sym (acc_num (past calls k) z.cards i (view c) ((state_at start apply z calls k).logs i) (delivered_at start apply z calls k i) (inv calls k).sound (ok calls k i))) (ok calls k i).com_upto);
+    committed_accepted = λ calls k i. let c = (state_at start apply z calls k).cards i in upto_header c.committed.0 c.committed.1 c.committed.2 c.accepted.0 c.accepted.1 c.accepted.2 (ok calls k i).com_led (acc_led (ok calls k i)) (subst (λ m. Up (hn c.committed) c.committed.2 m c.accepted.2) (sym (acc_num (ok calls k i))) (ok calls k i).com_upto);
   }

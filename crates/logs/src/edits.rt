@@ -20,21 +20,18 @@ impl<'a> Log<'a> {
         Log { places, used }
     }
 
-    // The used places.
     pub fn entries(&self) -> &[Entry]
         ensures { result.now ≡ take self.now.used self.now.places.now }
     {
         &self.places[..self.used]
     }
 
-    // How many places there are.
     pub fn capacity(&self) -> usize
         ensures { result ≡ length self.now.places.now }
     {
         self.places.len()
     }
 
-    // Whether every place is used.
     pub fn is_full(&self) -> bool
         ensures { result ≡ (self.now.used == length self.now.places.now) }
     {

@@ -10,7 +10,6 @@ ghost use Rattle.logs.specs.Log.{entries_of, kept_places, copied_into, copied_co
 use frames::Entry;
 use marks::{Header, Span};
 
-// Whether an entry is at or below `base`.
 pub(crate) fn is_up_to(base: Header, entry: Entry) -> bool
     ensures { result ≡ header_up_to entry.header base }
 {
@@ -27,14 +26,12 @@ pub fn entry_at(log: &[Entry], header: Header) -> Option<Entry>
         .copied()
 }
 
-// How many entries a span holds.
 pub fn inside_count(log: &[Entry], span: Span) -> usize
     ensures { result ≡ length (filter (inside span.low span.high) (entries_of log.now)) }
 {
     log.iter().filter(|entry| span.holds(entry.header)).count()
 }
 
-// How many entries are at or below `base`.
 pub fn count_up_to(log: &[Entry], base: Header) -> usize
     ensures { result ≡ length (kept_up_to base (entries_of log.now)) }
 {

@@ -52,7 +52,6 @@ fn post_times(ledger: &mut Ledger, posting: Posting, times: u16)
     }
 }
 
-// Applies what three words unpack to.
 pub fn deliver<M: Machine>(
     machine: &mut M,
     numbers: (i128, i128, i128),

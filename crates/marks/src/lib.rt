@@ -23,7 +23,6 @@ pub const LAST_ROUND: u32 = u32::MAX;
 
 pub const LAST_COUNT: u32 = u32::MAX - 1;
 
-// The header in an epoch with this count.
 pub fn header_in(epoch: Epoch, count: u32) -> Header
     ensures { result ≡ header_in epoch count }
 {
@@ -62,7 +61,6 @@ pub fn is_vote(v: Vote) -> bool
     is_epoch(v.0) && is_header(v.1)
 }
 
-// The least epoch that `card` leads above the given one.
 pub fn least_epoch(card: u8, above: Epoch) -> Result<Epoch, Refusal>
     ensures value { result ≡ least_epoch card above }
     ensures least { LeastLedAbove card above result }

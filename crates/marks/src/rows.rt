@@ -36,7 +36,6 @@ impl Mark for Vote {
     }
 }
 
-// The largest of a first row and the others.
 pub fn largest<T: Mark>(first: T, rows: &[T]) -> T
     ensures value { result ≡ largest_of T.up_to first rows.now }
     ensures largest { Largest T.up_to (first ∷ rows.now) result }
@@ -47,7 +46,6 @@ pub fn largest<T: Mark>(first: T, rows: &[T]) -> T
     )
 }
 
-// How many rows lie from `low` to `high`, ends counted.
 pub fn count_between<T: Mark>(low: T, high: T, rows: &[T]) -> usize
     ensures { result ≡ count_between T.up_to low high rows.now }
 {

@@ -11,7 +11,6 @@ pub struct Span {
 }
 
 impl Span {
-    // Whether a header is above `low` and below `high`.
     pub fn holds(self, header: Header) -> bool
         ensures { result ≡ (header_below self.low header && header_below header self.high) }
     {

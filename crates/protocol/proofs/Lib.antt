@@ -1,2 +1,4 @@
 pub mod Asked
+pub mod RowCount
 pub mod Standing
+pub mod Cards

@@ -51,11 +51,11 @@ whole_diff lane =
 abbrev pub formed : ℕ → List FrameFields → Bool
 formed peer lane = (is_message (front lane) || (is_diff (front lane) && whole_diff lane)) && (front lane).leader == peer
 
--- passed over: an epoch below the card's new epoch
+-- passed over: an epoch below the card's newest epoch
 abbrev pub too_low : Card → FrameFields → Bool
 too_low c f = epoch_below (epoch_of f) c.newest
 
--- a message of the current epoch, which is the new one too, with accepted's count + 1
+-- a message of the current epoch, which is the newest one too, with accepted's count + 1
 abbrev pub follows : Card → FrameFields → Bool
 follows c f = epoch_same (epoch_of f) c.current && (epoch_same (epoch_of f) c.newest && f.count == c.accepted.2 + 1)
 

@@ -23,7 +23,7 @@ largest_vote z i c = largest_of vote_up_to c.vote (vote_rows z.cards i c.vote c.
 abbrev pub later_epoch : Epoch → Epoch → Epoch
 later_epoch a b = cond (epoch_up_to a b) b a
 
--- the least epoch that the card leads above its new epoch and the largest vote's, if there is one
+-- the least epoch that the card leads above its newest epoch and the largest vote's, if there is one
 abbrev pub standing_epoch : Sizes → ℕ → Card → Result Epoch Refusal
 standing_epoch z i c = least_epoch i (later_epoch c.newest (largest_vote z i c).0)
 

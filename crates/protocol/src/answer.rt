@@ -28,7 +28,6 @@ impl Choice {
         }
     }
 
-    // The number by which a caller is told.
     pub fn number(self) -> u8
         ensures { result ≡ choice_number self }
     {
@@ -52,7 +51,6 @@ pub enum Intake {
 }
 
 impl Intake {
-    // The number by which a caller is told.
     pub fn number(self) -> u8
         ensures { result ≡ intake_number self }
     {

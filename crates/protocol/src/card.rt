@@ -50,7 +50,6 @@ impl Card {
         }
     }
 
-    // Votes for itself in an epoch.
     pub fn stand(&mut self, epoch: Epoch)
         ensures { self.new ≡ stood_in epoch self.old }
     {
@@ -59,7 +58,6 @@ impl Card {
         self.vote = (epoch, self.accepted);
     }
 
-    // Takes over another card's vote.
     pub fn join(&mut self, vote: Vote)
         ensures { self.new ≡ joined_to vote self.old }
     {
@@ -67,7 +65,6 @@ impl Card {
         self.vote = vote;
     }
 
-    // Leads its new epoch.
     pub fn lead(&mut self)
         ensures { self.new ≡ won_by self.old }
     {
@@ -84,7 +81,6 @@ impl Card {
         self.accepted = header;
     }
 
-    // Follows in the epoch of a diff.
     pub fn enter(&mut self, epoch: Epoch)
         ensures { self.new ≡ entered_by epoch self.old }
     {

@@ -1,12 +1,14 @@
 // What a card knows of its peers.
 ghost use Rattle.std.specs.Prelude.{◌≡◌};
+ghost use Rattle.marks.specs.Rows.{count_between};
 ghost use Rattle.protocol.specs.declared.peers.PeerRow.{PeerRow as ARow};
 ghost use Rattle.protocol.specs.Rows.{blank_row, blank_table, row_of, with_row, known_row, known_rows, store_accept, store_vote, store_commit, mark_shipped, forget_shipped};
 
+use marks::rows::Mark;
 use marks::{Header, Vote};
 use std::array;
 
-// What was shipped to a peer in this epoch, and the copies of its rows.
+// What was shipped to a peer since the card last won, and the copies of its rows.
 #[derive(Clone, Copy, PartialEq, Eq, Debug)]
 pub struct PeerRow {
     // None: nothing yet; Some(k): the diff, and messages up to count k
@@ -135,6 +137,29 @@ impl PeerTable {
         ensures { result ≡ known_rows T.Copied.copied 7 card own self.now }
     {
         array::from_fn(|index| self.known_row(card, own, index as u8 + 1))
+    }
+
+    // How many of the rows of cards 1 to `cards`, as a card knows them, lie from `low` to `high`, ends counted.
+    // Kept: a row is read when it is its turn. Tried over `known_rows`; the compiler then writes all seven rows to memory
+    // and copies them three times before the first is compared.
+    pub fn known_between<T: Copied + Mark>(
+        &self,
+        card: u8,
+        own: T,
+        cards: u8,
+        low: T,
+        high: T,
+    ) -> usize
+        ensures { result ≡ count_between T.Mark.up_to low high (known_rows T.Copied.copied cards card own self.now) }
+    {
+        let mut count = 0;
+        for before in 0..cards {
+            let row = self.known_row(card, own, before + 1);
+            if low.up_to(row) && row.up_to(high) {
+                count += 1;
+            }
+        }
+        count
     }
 
     // Nothing changes where there is no such peer.

@@ -19,7 +19,7 @@ use Rattle.card_log.specs.Parts.{is_missing, commit_log}
 use Rattle.rack.specs.Sound.{sound_card}
 use Rattle.rack.specs.View.{machines_of, view, sizes}
 use Rattle.rack.specs.declared.seat.Seat.{Seat}
-use Rattle.rack.specs.Written.{Written}
+use Rattle.rack.proofs.Written.{Written}
 use Rattle.rack.specs.declared.state.Rack.{Rack}
 use Rattle.rack.proofs.Views.{Found, at_same, own_card, view_written}
 use Rattle.rack.proofs.Sounds.{AreEntries, entries_all, entries_due, sound_committed}

@@ -1,4 +1,5 @@
 pub mod Views
+pub mod Written
 pub mod Sounds
 pub mod Frames
 pub mod Refused

@@ -1,20 +1,26 @@
 -- A card that is changed in its place among the seats.
-use Rattle.std.proofs.Common.{◌≡◌, ℕ, ◌-◌, ◌≤◌, true, false, [], length, get_or, set, sym, refl, ap, ◌∙◌, subst, arith, length-set}
+use Rattle.std.proofs.Common.{◌≡◌, ℕ, ◌-◌, ◌≤◌, Bool, true, false, not, List, [], ◌∷◌, length, get_or, set, sym, refl, ap, ◌∙◌, subst, arith, length-set}
 use Rattle.std.proofs.lemmas.List.{get_or-set_same, set-set}
-use Rattle.backplane.specs.Lanes.{is_card}
-use Rattle.protocol.specs.Rack.{opened_card}
+use Rattle.refusals.specs.declared.Refusal.{Refusal}
+use Rattle.refusals.specs.declared.Refusal.TheVariants.{NoSuchCard}
+use Rattle.backplane.specs.Lanes.{Lanes, is_card}
+use Rattle.frames.specs.declared.entry.Entry.{Entry}
+use Rattle.protocol.specs.Rack.{Reply, ask, with_card, opened_card}
+use Rattle.protocol.specs.declared.answer.Answer.{Answer}
+use Rattle.protocol.proofs.Asked.{Passed, ask_keeps}
 use Rattle.protocol.specs.declared.card.Card.{Card}
 use Rattle.protocol.specs.declared.card.Role.TheVariants.{Electing}
 use Rattle.cards.specs.Sizes.{card_count}
 use Rattle.rack.specs.Seats.{cards_in, used_in}
 use Rattle.rack.specs.Sound.{sound_card}
-use Rattle.rack.specs.Written.{Written}
+use Rattle.rack.specs.View.{view}
+use Rattle.rack.proofs.Written.{Written}
 use Rattle.rack.specs.declared.seat.Seat.{Seat}
 use Rattle.rack.specs.declared.state.Rack.{Rack}
 use Rattle.rack.proofs.Parts.{card_low, card_high, fits_set}
 use Rattle.rack.proofs.Peers.{Pair}
 use Rattle.rack.proofs.Sounds.{sound_set}
-use Rattle.rack.proofs.Views.{Found, few, map_set, seat_found, seat_read}
+use Rattle.rack.proofs.Views.{Found, carried, few, map_set, seat_found, seat_read, sound_found, used_found}
 
 -- what a place of no card would read as
 abbrev pub zeroed : Seat
@@ -69,3 +75,19 @@ module _ (r : Rack) (i : ℕ) (c : Card) (u : ℕ) (is : is_card (card_count r.s
 
   pub both_written : Written r with_both_moved i (record { card = c; used = u }) r.tally
   both_written = record { seats = set-set r.seats (i - 1) moved_card moved_both ∙ (λ k. set r.seats (i - 1) (record { card = (moved_there k).card; used = u })); size = refl; places = refl; tally = refl }
+
+-- a call that asks and changes its card alone
+module _ (checks : Card → List (Bool × Refusal)) (answer : Card → Answer) (after : Card → Card) (r : Rack) (i : ℕ) (own : Found r i (own_seat r i)) where
+  abbrev d : Card
+  d = (own_seat r i).card
+
+  module _ (keeps : Passed (checks d) → sound_card (after d) ≡ true) (reply : Reply) (c : Card) (e : (reply, c) ≡ ask (checks d) (answer d) (after d) d) where
+    pub alone_sound : sound_card c ≡ true
+    alone_sound = ap (λ (t : Reply × Card). sound_card t.1) e ∙ ask_keeps (λ (x : Card). sound_card x ≡ true) (checks d) (answer d) (after d) d (sound_found r i (own_seat r i) own) keeps
+
+    abbrev pub with_card_alone : Rack
+    with_card_alone = with_seat r i (record { card = c; used = (own_seat r i).used }) alone_sound (used_found r i (own_seat r i) own)
+
+    -- refused or not
+    pub alone_answered : {S : Type 0} (entries : List Entry) (machines : ℕ → S) (lanes : Lanes) → (reply, view with_card_alone entries machines lanes) ≡ ask ((not (is_card (card_count r.size) i), NoSuchCard) ∷ checks ((view r entries machines lanes).cards i)) (answer ((view r entries machines lanes).cards i)) (with_card i (after ((view r entries machines lanes).cards i)) (view r entries machines lanes)) (view r entries machines lanes)
+    alone_answered entries machines lanes = carried checks answer after r with_card_alone i (own_seat r i) c entries machines lanes reply own (with_seat_written r i (record { card = c; used = (own_seat r i).used }) alone_sound (used_found r i (own_seat r i) own)) e

@@ -24,7 +24,7 @@ use Rattle.rack.specs.Sound.{sound_card}
 use Rattle.rack.specs.Seats.{used_in}
 use Rattle.rack.specs.View.{part_of, view, sizes}
 use Rattle.rack.specs.declared.seat.Seat.{Seat}
-use Rattle.rack.specs.Written.{Written}
+use Rattle.rack.proofs.Written.{Written}
 use Rattle.rack.specs.declared.state.Rack.{Rack}
 use Rattle.rack.proofs.Sounds.{sound_shipped}
 use Rattle.rack.proofs.Frames.{framed_head, base_header}

@@ -10,14 +10,13 @@ use Rattle.refusals.specs.declared.Refusal.{Refusal}
 use Rattle.refusals.specs.declared.Refusal.TheVariants.{NoSuchCard, UsedUp}
 use Rattle.marks.specs.Kinds.{Epoch, Header, Vote, is_null_epoch, is_led_epoch, is_epoch, is_header, is_vote, epoch_of}
 use Rattle.marks.specs.Order.{epoch_same, epoch_up_to, vote_up_to}
-use Rattle.marks.specs.Rows.{largest_of}
 use Rattle.marks.specs.Least.{least_epoch}
 use Rattle.frames.specs.declared.entry.Entry.{Entry}
 use Rattle.frames.specs.Fields.{EntryFields, FrameFields, is_entry_header, is_entry, is_frame, header_of, words_header, no_words, carries_entry, carries_diff, carries_header, carries_vote}
 use Rattle.frames.specs.Fields as fields
 use Rattle.frames.specs.Views.{entry_fields}
 use Rattle.backplane.specs.Lanes.{is_card}
-use Rattle.protocol.specs.Rows.{blank_row, has_place, row_of, with_row, mark_shipped, store_accept, store_vote, store_commit, forget_up_to, rows_of, vote_of, vote_rows}
+use Rattle.protocol.specs.Rows.{blank_row, has_place, row_of, with_row, mark_shipped, store_accept, store_vote, store_commit, forget_up_to, vote_of, vote_rows}
 use Rattle.protocol.specs.Rack.{Sizes, opened_card, is_electing, is_leader, is_row_kind}
 use Rattle.protocol.specs.Voting.{largest_vote, later_epoch, standing_epoch, stood_in, timeout_epoch, timed_out, stands, joins, joined_to, elected, is_elected, won_by}
 use Rattle.protocol.specs.Booking.{place_after, accepted_up_to, with_peers, entry_at, inside}
@@ -26,10 +25,9 @@ use Rattle.protocol.specs.Committing.{one_or_none, opens_epoch, due_entries, las
 use Rattle.protocol.specs.Taking.{is_message, is_diff, entered_by, taken_by}
 use Rattle.protocol.specs.Exchange.{stored, stopped_card}
 use Rattle.protocol.specs.declared.card.Card.{Card}
-use Rattle.protocol.specs.declared.card.Role.{Role}
-use Rattle.protocol.specs.declared.card.Role.TheVariants.{Electing, Leader, Follower}
 use Rattle.protocol.specs.declared.peers.PeerRow.{PeerRow}
 use Rattle.protocol.specs.declared.peers.PeerTable.{PeerTable}
+use Rattle.protocol.proofs.Cards.{not_both, each_row, largest_one}
 use Rattle.rack.specs.Sound.{sound_row, sound_rows, sound_marks, sound_role, sound_card}
 
 -- one sound card more among sound cards
@@ -166,17 +164,8 @@ rows_forgotten : (k : ℕ) (t : PeerTable) → SoundRows t.rows → SoundRows (f
 rows_forgotten zero t all = all
 rows_forgotten (suc k) t all = rows_shipped (forget_up_to k t) (suc k) None (rows_forgotten k t all)
 
--- the largest of some votes is a vote
-largest_all : {A : Type 0} (up_to : A → A → Bool) (P : A → Type 0) (x : A) (ys : List A) → P x → AllByRecursion P ys → P (largest_of up_to x ys)
-largest_all up_to P x [] p all = p
-largest_all up_to P x (y ∷ ys) p all = largest_all up_to P (cond (up_to x y) y x) ys (cond_both (up_to x y) y x P (λ _. all.0) (λ _. p)) all.1
-
-rows_of_all : {A : Type 0} (P : A → Type 0) (row : ℕ → A) (n : ℕ) → ((j : ℕ) → P (row j)) → AllByRecursion P (rows_of row n)
-rows_of_all P row zero each = tt
-rows_of_all P row (suc n) each = (each 1, rows_of_all P (λ (j : ℕ). row (suc j)) n (λ j. each (suc j)))
-
 pub largest_vote_lem : (z : Sizes) (i : ℕ) (c : Card) → Sound c → is_vote (largest_vote z i c) ≡ true
-largest_vote_lem z i c s = largest_all vote_up_to (λ v. is_vote v ≡ true) c.vote (vote_rows z.cards i c.vote c.peers) s.vote (rows_of_all (λ v. is_vote v ≡ true) (vote_of i c.vote c.peers) z.cards one)
+largest_vote_lem z i c s = largest_one (λ v. is_vote v ≡ true) vote_up_to c.vote (vote_rows z.cards i c.vote c.peers) s.vote (each_row (λ v. is_vote v ≡ true) (vote_of i c.vote c.peers) z.cards one)
   where
     one : (j : ℕ) → is_vote (vote_of i c.vote c.peers j) ≡ true
     one j = cond_both (eqb j i) c.vote (row_of c.peers j).vote (λ v. is_vote v ≡ true) (λ _. s.vote) (λ _. (marks_of c.peers j s.rows).vote)
@@ -241,11 +230,6 @@ sound_timed_out z i c h ok = sound_from (timed_out z i c) (sound_stood (timeout_
     epoch : is_epoch (later_epoch c.newest (largest_vote z i c).0) ≡ true
     epoch = cond_both (epoch_up_to c.newest (largest_vote z i c).0) (largest_vote z i c).0 c.newest (λ e. is_epoch e ≡ true) (λ _. (vote_parts (largest_vote z i c) (largest_vote_lem z i c s)).0) (λ _. s.newest)
 
-role_electing : (r : Role) → is_electing r ≡ true → is_leader r ≡ true → ⊥
-role_electing Electing p q = false≢true q
-role_electing Leader p q = false≢true p
-role_electing Follower p q = false≢true q
-
 pub sound_joined : (v : Vote) (c : Card) → sound_card c ≡ true → is_electing c.role ≡ true → is_vote v ≡ true → sound_card (joined_to v c) ≡ true
 sound_joined v c h electing is = sound_from (joined_to v c) (record {
   accepted = s.accepted;
@@ -253,8 +237,8 @@ sound_joined v c h electing is = sound_from (joined_to v c) (record {
   vote = is;
   newest = (vote_parts v is).0;
   electing = λ _. same_self v.0.0 v.0.1;
-  leads = λ no. absurd (role_electing c.role electing no);
-  places = λ no. absurd (role_electing c.role electing no);
+  leads = λ no. absurd (not_both c.role electing no);
+  places = λ no. absurd (not_both c.role electing no);
   rows = s.rows;
 })
   where

@@ -17,7 +17,7 @@ use Rattle.cards.specs.Sizes.{card_count}
 use Rattle.card_log.specs.Parts.{is_booking, submit_log}
 use Rattle.rack.specs.Sound.{sound_card}
 use Rattle.rack.specs.View.{part_of, view, sizes}
-use Rattle.rack.specs.Written.{Written}
+use Rattle.rack.proofs.Written.{Written}
 use Rattle.rack.specs.declared.seat.Seat.{Seat}
 use Rattle.rack.specs.declared.state.Rack.{Rack}
 use Rattle.rack.proofs.Sounds.{sound_parts, sound_placed, place_entry}

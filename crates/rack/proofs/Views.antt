@@ -22,7 +22,7 @@ use Rattle.rack.specs.View.{by_card, part_of, logs_of, view, sizes}
 use Rattle.rack.specs.declared.seat.Seat.{Seat}
 use Rattle.rack.proofs.Parts.{Replaced, replaced_none, logs_set}
 use Rattle.rack.specs.declared.state.Rack.{Rack}
-use Rattle.rack.specs.Written.{Written}
+use Rattle.rack.proofs.Written.{Written}
 use Rattle.rack.specs.declared.fault.RackFault.{RackFault}
 use Rattle.rack.specs.declared.fault.RackFault.TheVariants as fault
 

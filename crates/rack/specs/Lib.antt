@@ -4,4 +4,3 @@ pub mod Reading
 pub mod Seats
 pub mod Sound
 pub mod View
-pub mod Written

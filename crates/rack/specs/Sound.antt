@@ -1,4 +1,4 @@
--- What every card of a rack keeps: its marks are marks, an electing card's new epoch is its vote's, and a leader's epoch is one that a card leads.
+-- What every card of a rack keeps: its marks are marks, an electing card's newest epoch is its vote's, and a leader's epoch is one that a card leads.
 use Rattle.std.specs.Prelude.{Bool, true, not, ◌&&◌, ◌||◌, List, [], ◌∷◌}
 use Rattle.marks.specs.Kinds.{is_led_epoch, is_epoch, is_header, is_vote, epoch_of}
 use Rattle.marks.specs.Order.{epoch_same}

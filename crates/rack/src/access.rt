@@ -4,9 +4,7 @@ ghost use Rattle.backplane.specs.Lanes.{is_card};
 ghost use Rattle.protocol.specs.Rack.{opened_card, no_peer};
 ghost use Rattle.cards.specs.Sizes.{card_count};
 ghost use Rattle.rack.specs.Seats.{opened_seat, cards_in};
-ghost use Rattle.rack.specs.Sound.{sound_card};
 ghost use Rattle.rack.specs.View.{sizes};
-ghost use Rattle.rack.specs.Written.{Written};
 ghost use Rattle.rack.specs.declared.fault.RackFault.TheVariants.{NoSuchCard};
 
 use crate::fault::RackFault;
@@ -23,7 +21,6 @@ impl Rack {
         (1..=self.size.cards()).contains(&card)
     }
 
-    // The card of this number, copied out.
     pub fn card(&self, card: u8) -> Result<Card, RackFault>
         ensures { result ≡ (if is_card (card_count self.now.size) card then Ok (slice_index_or (cards_in self.now.seats) (card - 1) opened_card) else Err NoSuchCard) }
     {
@@ -53,7 +50,6 @@ impl Rack {
         Ok(seat)
     }
 
-    // Which card of how many it is.
     pub(crate) fn member(&self, card: u8) -> Member
         ensures { result ≡ record { size = self.now.size; number = card } }
     {
@@ -63,27 +59,17 @@ impl Rack {
         }
     }
 
-    // The places of all logs together.
     pub(crate) fn total(&self) -> usize
         ensures { result ≡ card_count self.now.size * self.now.places }
     {
         self.size.cards() as usize * self.places
     }
 
-    // Where a card's part of the entries begins.
     pub(crate) fn start(&self, card: u8) -> usize
         requires { is_card (card_count self.now.size) card ≡ true }
         ensures start { result ≡ (card - 1) * self.now.places }
         ensures within { result + self.now.places ≤ card_count self.now.size * self.now.places }
     {
         (card as usize - 1) * self.places
-    }
-
-    // Writes a seat back, and leaves all else.
-    pub(crate) fn put(&mut self, card: u8, seat: Seat)
-        requires { (is_card (card_count self.old.size) card ≡ true) × ((sound_card seat.card ≡ true) × (seat.used ≤ self.old.places)) }
-        ensures { Written self.old self.new card seat self.old.tally }
-    {
-        self.seats[card as usize - 1] = seat;
     }
 }

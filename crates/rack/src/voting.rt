@@ -16,15 +16,13 @@ use protocol::Choice;
 // Kept: four calls that are alike but for what they ask of the card. The contract of each is an equation by its own definition;
 // one function over a closure could only say what the closure says.
 impl Rack {
-    // The card votes for itself in the least epoch that it leads above those it knows of.
     pub fn timeout(&mut self, card: u8) -> Result<Epoch, RackFault>
         ensures step { (entries : Listing AnEntry) (lanes : Lanes) → (told ForEpoch result, view self.new entries (λ _. tt {0}) lanes) ≡ timeout (sizes self.old 0) card (view self.old entries (λ _. tt {0}) lanes) }
         ensures sizes { sizes self.new 0 ≡ sizes self.old 0 }
     {
-        let mut seat = self.seat(card)?;
-        let epoch = self.member(card).timeout(&mut seat.card)?;
-        self.put(card, seat);
-        Ok(epoch)
+        self.seat(card)?;
+        let member = self.member(card);
+        Ok(member.timeout(&mut self.seats[card as usize - 1].card)?)
     }
 
     // The card stands itself, joins the largest vote, or keeps its own.
@@ -32,10 +30,9 @@ impl Rack {
         ensures step { (entries : Listing AnEntry) (lanes : Lanes) → (told Chose result, view self.new entries (λ _. tt {0}) lanes) ≡ elect (sizes self.old 0) card (view self.old entries (λ _. tt {0}) lanes) }
         ensures sizes { sizes self.new 0 ≡ sizes self.old 0 }
     {
-        let mut seat = self.seat(card)?;
-        let choice = self.member(card).elect(&mut seat.card)?;
-        self.put(card, seat);
-        Ok(choice)
+        self.seat(card)?;
+        let member = self.member(card);
+        Ok(member.elect(&mut self.seats[card as usize - 1].card)?)
     }
 
     // The card leads its vote's epoch once a majority of votes equals its own.
@@ -43,20 +40,17 @@ impl Rack {
         ensures step { (entries : Listing AnEntry) (lanes : Lanes) → (told ForEpoch result, view self.new entries (λ _. tt {0}) lanes) ≡ win (sizes self.old 0) card (view self.old entries (λ _. tt {0}) lanes) }
         ensures sizes { sizes self.new 0 ≡ sizes self.old 0 }
     {
-        let mut seat = self.seat(card)?;
-        let epoch = self.member(card).win(&mut seat.card)?;
-        self.put(card, seat);
-        Ok(epoch)
+        self.seat(card)?;
+        let member = self.member(card);
+        Ok(member.win(&mut self.seats[card as usize - 1].card)?)
     }
 
-    // The card takes no further call.
     pub fn stop(&mut self, card: u8) -> Result<(), RackFault>
         ensures step { (entries : Listing AnEntry) (lanes : Lanes) → (told (λ _. Done) result, view self.new entries (λ _. tt {0}) lanes) ≡ stop (sizes self.old 0) card (view self.old entries (λ _. tt {0}) lanes) }
         ensures sizes { sizes self.new 0 ≡ sizes self.old 0 }
     {
-        let mut seat = self.seat(card)?;
-        cards::voting::stop(&mut seat.card)?;
-        self.put(card, seat);
+        self.seat(card)?;
+        cards::voting::stop(&mut self.seats[card as usize - 1].card)?;
         Ok(())
     }
 }

@@ -2,7 +2,7 @@
 use crate::bench::{lane, opened, why};
 use backplane::Backplane;
 use cards::CardFault;
-use cards::booking::place;
+use cards::booking::accept_next;
 use frames::Frame;
 use marks::{LAST_COUNT, LAST_ROUND};
 use protocol::{Card, Choice, Role};
@@ -56,7 +56,7 @@ fn counts_and_tally(rt: HostRuntime) -> Result<(), Fail> {
         card.role = Role::Leader;
         card.accepted = (0, 1, count);
         let before = card;
-        let answer = place(&mut card, false, tally);
+        let answer = accept_next(&mut card, false, tally);
         if left {
             assert_eq!(rt; answer, Ok((0, 1, count.saturating_add(1))));
         } else {
@@ -64,7 +64,10 @@ fn counts_and_tally(rt: HostRuntime) -> Result<(), Fail> {
             assert_eq!(rt; card, before);
         }
         // 10 comes before 12
-        assert_eq!(rt; place(&mut card, true, tally), Err(CardFault::LogFull));
+        assert_eq!(rt;
+            accept_next(&mut card, true, tally),
+            Err(CardFault::LogFull)
+        );
     }
     Ok(())
 }

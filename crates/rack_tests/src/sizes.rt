@@ -14,7 +14,7 @@ use std::test::Fail;
 #[test]
 fn open_by_its_sizes(rt: HostRuntime) -> Result<(), Fail> {
     let entries = [entry((0, 1, 1))?; 6];
-    let mut frames = FrameBox::new();
+    let frames = FrameBox::new();
     // cards, places, entries, and whether they are a rack's
     let table = [
         (3, 2, 6, true),
@@ -44,10 +44,18 @@ fn open_by_its_sizes(rt: HostRuntime) -> Result<(), Fail> {
             assert_eq!(rt; fault.refusal(), Refusal::WrongSize);
         }
     }
-    // too few machines, and a frame that waits
+    Ok(())
+}
+
+#[test]
+fn open_by_what_is_lent(rt: HostRuntime) -> Result<(), Fail> {
+    let entries = [entry((0, 1, 1))?; 6];
+    let mut frames = FrameBox::new();
+    // too few machines
     let mut machines = ledgers();
     let few = machines.get_mut(..2).unwrap_or(&mut []);
     assert!(rt; Rack::open::<FrameBox, Ledger>(3, 2, &entries, few, &frames).is_err());
+    // a frame that waits
     frames.send(lane(2, 3, 0), Frame::message(entry((0, 1, 1))?))?;
     let mut machines = ledgers();
     assert!(rt; Rack::open::<FrameBox, Ledger>(3, 2, &entries, &mut machines, &frames).is_err());

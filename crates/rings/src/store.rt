@@ -19,6 +19,7 @@ impl Store<'_> {
         write_slot(&mut self.bytes[..], slot * SLOT, frame).unwrap()
     }
 
+    #[inline(always)]
     pub(crate) fn read(&self, slot: usize) -> Result<Frame, Refusal>
         requires { slot * 48 + 48 ≤ length self.now.bytes.now }
         ensures { result ≡ read_at self.now.bytes.now (slot * 48) }

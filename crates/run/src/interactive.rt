@@ -1,6 +1,6 @@
 // The script that stands on standard input.
 use crate::opened::Work;
-use crate::payloads::Told;
+use crate::payloads::Printed;
 use crate::table::Table;
 use backplane::Backplane;
 use std::io;
@@ -13,7 +13,7 @@ pub(crate) struct Script<'a> {
 
 impl Work for Script<'_> {
     // Each line of the input in turn.
-    fn work<B: Backplane, M: Told>(self, table: &mut Table<'_, B, M>) -> io::Result<()> {
+    fn work<B: Backplane, M: Printed>(self, table: &mut Table<'_, B, M>) -> io::Result<()> {
         let rt = self.rt;
         // Kept: each program that reads lines has this loop. One function for all would be handed a closure, and a public
         // function that is handed one has a premise, that it can be called; none here has a premise.

@@ -1,5 +1,5 @@
 // A line as what it asks of a rack.
-use crate::payloads::Told;
+use crate::payloads::Printed;
 use numerals::number;
 use protocol::Call;
 use refusals::Refusal;
@@ -25,7 +25,7 @@ fn small(number: i128) -> u8 {
 }
 
 // A submit's payload is made before the rack is asked.
-fn submit<M: Told>(to: i128, queue: i128, payload: &[i128]) -> Option<Line> {
+fn submit<M: Printed>(to: i128, queue: i128, payload: &[i128]) -> Option<Line> {
     let made = M::draft(payload)?.and_then(|draft| M::make(draft));
     Some(match made {
         Ok(payload) => Line::Call(Call::Submit(card(to), small(queue), M::pack(payload))),
@@ -49,7 +49,7 @@ fn call(name: &str, numbers: &[i128]) -> Option<Call> {
 }
 
 // None where the line asks nothing.
-pub(crate) fn read<M: Told>(heap: Global, line: &str) -> Result<Option<Line>, AllocError> {
+pub(crate) fn read<M: Printed>(heap: Global, line: &str) -> Result<Option<Line>, AllocError> {
     let mut words = line.split_whitespace();
     let Some(name) = words.next() else {
         return Ok(None);

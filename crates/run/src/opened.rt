@@ -1,5 +1,5 @@
 // What is to be done with a rack, on the one that is chosen.
-use crate::payloads::Told;
+use crate::payloads::Printed;
 use crate::setup::{Machines, Setup, Store};
 use crate::table::Table;
 use backplane::Backplane;
@@ -16,10 +16,10 @@ use std::io;
 const ROOM: usize = 20;
 
 pub(crate) trait Work: Drop {
-    fn work<B: Backplane, M: Told>(self, table: &mut Table<'_, B, M>) -> io::Result<()>;
+    fn work<B: Backplane, M: Printed>(self, table: &mut Table<'_, B, M>) -> io::Result<()>;
 }
 
-fn over<B: Backplane, M: Told, W: Work>(
+fn over<B: Backplane, M: Printed, W: Work>(
     heap: Global,
     setup: Setup,
     backplane: &mut B,

@@ -1,5 +1,5 @@
 // What is printed of a reply, of a line that asks nothing, and of what a card has delivered.
-use crate::payloads::Told;
+use crate::payloads::Printed;
 use crate::view::At;
 use frames::Entry;
 use play::Reply;
@@ -13,14 +13,13 @@ pub(crate) fn reply_text(heap: Global, reply: Reply) -> Result<String, AllocErro
     }
 }
 
-pub(crate) fn no_call<M: Told>(heap: Global, line: &str) -> Result<String, AllocError> {
+pub(crate) fn no_call<M: Printed>(heap: Global, line: &str) -> Result<String, AllocError> {
     let payload = M::form();
     format!(in heap;
         "not a call: {line} (a line is timeout, elect, win, commit, stop or show CARD; ship or take CARD PEER; push or look CARD PEER KIND; or submit CARD QUEUE {payload})"
     )
 }
 
-// A card's delivered headers.
 #[derive(Clone, Copy, Drop)]
 pub(crate) struct Delivered<'a> {
     pub(crate) card: u8,

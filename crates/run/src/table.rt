@@ -1,6 +1,6 @@
 // A rack with the memory that is lent to it, and its lines.
 use crate::line::{Line, read};
-use crate::payloads::Told;
+use crate::payloads::Printed;
 use crate::said::{Delivered, no_call, reply_text};
 use crate::view::View;
 use backplane::Backplane;
@@ -13,7 +13,7 @@ use refusals::Refusal;
 use std::alloc::{AllocError, Global};
 
 #[derive(Drop)]
-pub(crate) struct Table<'a, B: Backplane, M: Told> {
+pub(crate) struct Table<'a, B: Backplane, M: Printed> {
     rack: Rack,
     cards: u8,
     places: usize,
@@ -24,7 +24,7 @@ pub(crate) struct Table<'a, B: Backplane, M: Told> {
     read: Vec<Entry>,
 }
 
-impl<'a, B: Backplane, M: Told> Table<'a, B, M> {
+impl<'a, B: Backplane, M: Printed> Table<'a, B, M> {
     // An opened rack of so many cards, with so many places in each log, over this backplane.
     pub(crate) fn open(
         heap: Global,
@@ -66,7 +66,6 @@ impl<'a, B: Backplane, M: Told> Table<'a, B, M> {
         self.cards
     }
 
-    // Does what the line asks, and says what is printed of it.
     pub(crate) fn answer(&mut self, heap: Global, line: &str) -> Result<String, AllocError> {
         match read::<M>(heap, line)? {
             Some(Line::Call(call)) => reply_text(heap, self.call(call)),
@@ -118,7 +117,6 @@ impl<'a, B: Backplane, M: Told> Table<'a, B, M> {
         })
     }
 
-    // What a card has delivered, in print.
     pub(crate) fn delivered(&mut self, heap: Global, card: u8) -> Result<String, AllocError> {
         let out = self.read.as_mut_slice();
         let count = self.rack.reading(self.entries.as_slice(), card, out);

@@ -1,6 +1,6 @@
 // Stored scripts print what is stored.
 use crate::opened::{Work, on_rack};
-use crate::payloads::Told;
+use crate::payloads::Printed;
 use crate::scripts::{ALL, Stored};
 use crate::setup::Setup;
 use crate::table::Table;
@@ -16,8 +16,7 @@ struct Case {
     prints: &'static str,
 }
 
-// All that a script prints.
-fn transcript<B: Backplane, M: Told>(
+fn transcript<B: Backplane, M: Printed>(
     heap: Global,
     table: &mut Table<'_, B, M>,
     script: &str,
@@ -35,7 +34,7 @@ fn transcript<B: Backplane, M: Told>(
 }
 
 impl Work for Case {
-    fn work<B: Backplane, M: Told>(self, table: &mut Table<'_, B, M>) -> io::Result<()> {
+    fn work<B: Backplane, M: Printed>(self, table: &mut Table<'_, B, M>) -> io::Result<()> {
         let text = transcript(self.heap, table, self.lines)?;
         if text.as_str() == self.prints {
             Ok(())
@@ -45,7 +44,6 @@ impl Work for Case {
     }
 }
 
-// Whether a script prints what is stored.
 fn prints(heap: Global, stored: Stored) -> bool {
     let mut setup = Setup::usual();
     for argument in stored.rack.split_whitespace() {

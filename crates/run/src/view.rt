@@ -1,12 +1,12 @@
 // All that a card holds, in print.
-use crate::payloads::Told;
+use crate::payloads::Printed;
 use frames::Entry;
 use marks::{Epoch, Header, Vote};
 use protocol::{Card, PeerRow, Role};
 use std::fmt;
 
 #[derive(Drop)]
-pub(crate) struct View<'a, M: Told> {
+pub(crate) struct View<'a, M: Printed> {
     pub(crate) number: u8,
     pub(crate) cards: u8,
     pub(crate) places: usize,
@@ -18,7 +18,6 @@ pub(crate) struct View<'a, M: Told> {
 #[derive(Clone, Copy)]
 struct InEpoch(Epoch);
 
-// A header with dots.
 #[derive(Clone, Copy)]
 pub(crate) struct At(pub(crate) Header);
 
@@ -28,7 +27,6 @@ struct Voted(Vote);
 #[derive(Clone, Copy)]
 struct As(Role);
 
-// A peer, and what is known of it.
 #[derive(Clone, Copy)]
 struct Peer(u8, PeerRow);
 
@@ -80,7 +78,7 @@ impl fmt::Display for Peer {
     }
 }
 
-impl<M: Told> View<'_, M> {
+impl<M: Printed> View<'_, M> {
     fn marks<W: fmt::Write>(&self, f: &mut fmt::Formatter<W>) -> fmt::Result {
         let number = self.number;
         let card = self.card;
@@ -124,14 +122,30 @@ impl<M: Told> View<'_, M> {
         }
         Ok(())
     }
+
+    fn state<W: fmt::Write>(&self, f: &mut fmt::Formatter<W>) -> fmt::Result {
+        let name = M::name();
+        write!(f, "\n  {name}:")?;
+        let mut changed = false;
+        for item in 0..M::items() {
+            if let Some(change) = self.machine.change(item) {
+                write!(f, " {change}")?;
+                changed = true;
+            }
+        }
+        if changed {
+            return Ok(());
+        }
+        let words = M::unchanged();
+        write!(f, " {words}")
+    }
 }
 
-impl<M: Told> fmt::Display for View<'_, M> {
+impl<M: Printed> fmt::Display for View<'_, M> {
     fn fmt<W: fmt::Write>(&self, f: &mut fmt::Formatter<W>) -> fmt::Result {
         self.marks(f)?;
         self.peers(f)?;
         self.entries(f)?;
-        write!(f, "\n  ")?;
-        self.machine.state(f)
+        self.state(f)
     }
 }

@@ -32,7 +32,6 @@ fn send_entries<B: Backplane>(log: &[Entry], span: Span, port: &mut Port<'_, B>)
     }
 }
 
-// The head of a diff of so many entries.
 fn head_of(epoch: Epoch, base: Header, entries: usize) -> Result<Frame, CardFault>
     ensures { result ≡ framed (frame_from (head_frame epoch base entries)) }
 {

@@ -29,10 +29,10 @@ pub fn ship<B: Backplane>(
     card: &mut Card,
     log: &[Entry],
     backplane: &mut B,
-    i: u8,
-    j: u8,
+    number: u8,
+    peer: u8,
 ) -> Result<u32, CardFault>
-    ensures part { (replied Count result, (card.new, lane_fields (B.Backplane.lanes backplane.new))) ≡ ship_part (B.Backplane.count backplane.old) (B.Backplane.room backplane.old) i j (entries_of log.now) (card.old, lane_fields (B.Backplane.lanes backplane.old)) }
+    ensures part { (replied Count result, (card.new, lane_fields (B.Backplane.lanes backplane.new))) ≡ ship_part (B.Backplane.count backplane.old) (B.Backplane.room backplane.old) number peer (entries_of log.now) (card.old, lane_fields (B.Backplane.lanes backplane.old)) }
     ensures count { B.Backplane.count backplane.new ≡ B.Backplane.count backplane.old }
     ensures room { B.Backplane.room backplane.new ≡ B.Backplane.room backplane.old }
 {
@@ -43,21 +43,21 @@ pub fn ship<B: Backplane>(
         return Err(CardFault::WrongRole);
     }
     let lane = Lane {
-        from: i,
-        to: j,
+        from: number,
+        to: peer,
         number: 0,
     };
-    let row = card.peers.row(j);
+    let row = card.peers.row(peer);
     match row.shipped {
         None => {
             let frames = send_diff(card.current, row.commit, log, backplane, lane)?;
-            card.peers.mark_shipped(j, Some(0));
+            card.peers.mark_shipped(peer, Some(0));
             Ok(frames)
         }
         Some(shipped) => {
             let count = shipped.checked_add(1).ok_or(CardFault::NothingDue)?;
             let frames = send_message(header_in(card.current, count), log, backplane, lane)?;
-            card.peers.mark_shipped(j, Some(count));
+            card.peers.mark_shipped(peer, Some(count));
             Ok(frames)
         }
     }

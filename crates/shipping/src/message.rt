@@ -14,7 +14,6 @@ use frames::{Entry, Frame};
 use logs::entry_at;
 use marks::Header;
 
-// Sends the entry with this header, and says how many frames it has.
 pub(crate) fn send_message<B: Backplane>(
     header: Header,
     log: &[Entry],

@@ -11,7 +11,6 @@ pub(crate) fn digit_value(text: u8) -> Option<u8>
     Some((text as char).to_digit(16)? as u8)
 }
 
-// The text of the low four bits.
 pub(crate) fn digit_text(value: u8) -> char
     ensures { result ≡ digit_text (value % 16) }
 {

@@ -24,14 +24,12 @@ pub(crate) fn serve(heap: Global, line: &str) -> Result<Reply, AllocError> {
     })
 }
 
-// The slot of a frame's eight numbers.
 fn written(numbers: [i128; 8]) -> Reply {
     let mut slot = [0; SLOT];
     write_slot(&mut slot, 0, Frame::from_numbers(numbers)?)?;
     Ok(Answer::Slot(slot))
 }
 
-// The frame whose slot stands at `start`.
 fn told(bytes: &[u8], start: i128) -> Reply {
     let start = usize::try_from(start).or(Err(Refusal::WrongSize))?;
     Ok(Answer::Frame(read_slot(bytes, start)?))

@@ -27,7 +27,6 @@ pub(crate) struct OpenedDiff {
     pub(crate) entries: usize,
 }
 
-// Whether a frame carries an entry of a diff whose header a span holds.
 fn is_entry_between(frame: Frame, span: Span) -> bool
     ensures { result ≡ entry_between span.low span.high (frame_fields frame) }
 {
@@ -63,7 +62,6 @@ impl OpenedDiff {
         true
     }
 
-    // Appends the entries behind the head to a log.
     fn copy_entries<B: Backplane>(&self, log: &mut Log<'_>, port: &Port<'_, B>)
         requires whole { whole_behind self.now.base (header_in self.now.epoch 0) self.now.entries (drop 1 (lane_of port.now)) ≡ true }
         requires room { log.old.used + self.now.entries ≤ length log.old.places.now }

@@ -4,7 +4,6 @@ ghost use Rattle.backplane.specs.Ports.{SamePort, lanes_of, lanes_at, waits};
 
 use backplane::{Backplane, Port};
 
-// Drops frames that wait there.
 pub(crate) fn discard<B: Backplane>(port: &mut Port<'_, B>, k: usize)
     requires { k ≤ length (waits port.old) }
     ensures same { SamePort port.old port.new }

@@ -14,7 +14,7 @@ use cards::CardFault;
 use logs::Log;
 use protocol::{Card, Intake};
 
-// Takes the first message or whole diff that waits from peer j for card i.
+// Takes the first message or whole diff that waits from a peer.
 // Kept: a call's checks stand in it one by one, in the order of its definition. A function for each would take the order out
 // of sight.
 // Kept: two cards and no lane, since that it is lane 0 is the rule's, and not the caller's.
@@ -22,11 +22,11 @@ pub fn take<B: Backplane>(
     card: &mut Card,
     log: &mut Log<'_>,
     backplane: &mut B,
-    i: u8,
-    j: u8,
+    number: u8,
+    peer: u8,
 ) -> Result<Intake, CardFault>
     ensures same { SamePlaces log.old log.new }
-    ensures part { (replied Took result, (card.new, logged log.new, lane_fields (B.Backplane.lanes backplane.new))) ≡ take_part (B.Backplane.count backplane.old) (length log.old.places.now) i j (card.old, logged log.old, lane_fields (B.Backplane.lanes backplane.old)) }
+    ensures part { (replied Took result, (card.new, logged log.new, lane_fields (B.Backplane.lanes backplane.new))) ≡ take_part (B.Backplane.count backplane.old) (length log.old.places.now) number peer (card.old, logged log.old, lane_fields (B.Backplane.lanes backplane.old)) }
     ensures stays { OnErr result (Untouched log.old log.new) }
     ensures count { B.Backplane.count backplane.new ≡ B.Backplane.count backplane.old }
     ensures room { B.Backplane.room backplane.new ≡ B.Backplane.room backplane.old }
@@ -35,8 +35,8 @@ pub fn take<B: Backplane>(
         return Err(CardFault::Stopped);
     }
     let lane = Lane {
-        from: j,
-        to: i,
+        from: peer,
+        to: number,
         number: 0,
     };
     // refuses where there is no such lane

@@ -11,7 +11,6 @@ use frames::Frame;
 impl<B: Backplane> Port<'_, B> {
     ghost use Rattle.backplane.specs.Ports.{room_of, lanes_of, waits, lanes_at, SamePort};
 
-    // Sends a frame, where there is room for it.
     pub fn send(&mut self, frame: Frame) -> Result<(), LaneFault>
         ensures same { SamePort self.old self.new }
         ensures answer { result ≡ (if nat_le (room_of self.old) (length (waits self.old)) then Err Full else Ok tt) }
@@ -27,7 +26,6 @@ impl<B: Backplane> Port<'_, B> {
         self.backplane.frame_at(self.lane, position).ok()
     }
 
-    // Drops so many of the frames that wait there, the first ones.
     pub fn drop_first(&mut self, k: usize) -> Result<(), LaneFault>
         ensures same { SamePort self.old self.new }
         ensures answer { result ≡ (if nat_lt (length (waits self.old)) k then Err NothingThere else Ok tt) }

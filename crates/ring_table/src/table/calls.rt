@@ -43,7 +43,6 @@ impl RingTable {
         Ok(self.rings[place].count as usize)
     }
 
-    // The slot of the frame at a position.
     #[tactic(auto, using(crate::proofs::Calls::slot_there, crate::proofs::Calls::slot_past, crate::proofs::Calls::slot_below))]
     pub fn slot_at(&self, lane: Lane, position: usize) -> Result<usize, LaneFault>
         ensures value { result ≡ frame_out self.now.shape.cards (slots self.now) lane.from lane.to lane.number position }
@@ -56,7 +55,6 @@ impl RingTable {
         Ok(self.slot(place, position as u16))
     }
 
-    // A slot for one more frame.
     #[tactic(auto, using(crate::proofs::Calls::full_there))]
     pub fn enter(&mut self, lane: Lane) -> Result<usize, LaneFault>
         ensures entered { Entered self.old.shape.cards self.old.shape.room (slots self.old) (slots self.new) lane.from lane.to lane.number result }
@@ -76,7 +74,6 @@ impl RingTable {
         Ok(slot)
     }
 
-    // The first k frames leave.
     pub fn leave(&mut self, lane: Lane, k: usize) -> Result<(), LaneFault>
         ensures answer { result ≡ drop_out self.old.shape.cards (slots self.old) lane.from lane.to lane.number k }
         ensures slots { slots self.new ≡ drop_lanes self.old.shape.cards (slots self.old) lane.from lane.to lane.number k }

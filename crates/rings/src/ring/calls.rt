@@ -89,12 +89,15 @@ impl Backplane for Rings<'_> {
         self.table.waiting(lane)
     }
 
+    // Inlined, as `send` below: a frame that is handed over by a call goes through memory.
+    #[inline(always)]
     fn frame_at(&self, lane: Lane, position: usize) -> Result<Frame, LaneFault> {
         let slot = self.table.slot_at(lane, position)?;
         Ok(self.store.read(slot).unwrap())
     }
 
     #[tactic(auto, using(crate::proofs::Frames::sent_lanes, crate::proofs::Frames::kept_frames, crate::proofs::Frames::kept_lanes, crate::proofs::Frames::long_kept))]
+    #[inline(always)]
     fn send(&mut self, lane: Lane, frame: Frame) -> Result<(), LaneFault> {
         let slot = self.table.enter(lane)?;
         self.store.write(slot, frame);

@@ -1,7 +1,5 @@
-use Rattle.std.proofs.Common.{◌≡◌, ◌+◌, ◌-◌, ◌%◌, ◌<◌, List, ℕ, get_or, take, drop, refl, ap, ◌∙◌, eqb, arith}
+use Rattle.std.proofs.Common.{◌≡◌, ◌+◌, ◌-◌, ◌%◌, ◌<◌, List, ℕ, get_or, take, drop, refl, ap, ◌∙◌, arith}
 use lib.Lanes.{number_l}
-use Rattle.std.specs.List.{list_all}
-use Rattle.std.proofs.lemmas.List.{take_rest}
 use Rattle.std.proofs.lemmas.Simd.{Each1-from_get_or}
 use Rattle.frames.specs.Slot.{field_widths}
 use Rattle.frames.proofs.Parsing.{Read, read_on, read_off, dishonest, untidy, read_all}
@@ -34,14 +32,14 @@ loop-i-preserved c =
           rw (w.at-is, w.values-is) (read_off c.loop-i.i c.loop-i.at c.loop-i.left c.loop-i.values c.args.slot.now within c.loop-i.invariant even)
     ]
 
-pub returns-then-not-all_zero : goal.returns-then-not-all_zero
-returns-then-not-all_zero c =
+pub returns-then-not-zeros_from : goal.returns-then-not-zeros_from
+returns-then-not-zeros_from c =
     let eight : c.loop-i.i ≡ 8 = omega arith in
     let last : Read 8 c.loop-i.at c.loop-i.left c.loop-i.values c.args.slot.now = rw eight at c.loop-i.invariant in
-    (refl, λ vs fit e. untidy c.loop-i.at c.loop-i.left c.loop-i.values c.args.slot.now vs last (c.if-not-all_zero.ensures ∙ ap (list_all (λ b. eqb b 0)) (take_rest c.args.slot.now c.loop-i.at)) fit e)
+    (refl, λ vs fit e. untidy c.loop-i.at c.loop-i.left c.loop-i.values c.args.slot.now vs last c.if-not-zeros_from.ensures fit e)
 
 pub returns : goal.returns
 returns c =
     let eight : c.loop-i.i ≡ 8 = omega arith in
     let last : Read 8 c.loop-i.at c.loop-i.left c.loop-i.values c.args.slot.now = rw eight at c.loop-i.invariant in
-    read_all c.loop-i.at c.loop-i.left c.loop-i.values c.args.slot.now c.requires (Each1-from_get_or (λ b. b < 256) c.args.slot.now 0 (λ i h. (c.type_inv.slot i).fits)) last (c.if-not-all_zero.ensures ∙ ap (list_all (λ b. eqb b 0)) (take_rest c.args.slot.now c.loop-i.at))
+    read_all c.loop-i.at c.loop-i.left c.loop-i.values c.args.slot.now c.requires (Each1-from_get_or (λ b. b < 256) c.args.slot.now 0 (λ i h. (c.type_inv.slot i).fits)) last c.if-not-zeros_from.ensures

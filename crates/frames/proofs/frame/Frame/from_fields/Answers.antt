@@ -1,4 +1,4 @@
-use Rattle.std.proofs.Common.{◌≡◌, sym, ◌∙◌, slice_index, Some, rules}
+use Rattle.std.proofs.Common.{◌≡◌, ◌∙◌, slice_index, Some, rules}
 use Rattle.frames.specs.Fields.{fields_of}
 use Rattle.frames.specs.Made.{from_list, frame_from}
 use Rattle.frames.proofs.Reading.{wide_refused, narrow_header}

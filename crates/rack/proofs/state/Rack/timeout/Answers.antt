@@ -1,17 +1,18 @@
-use Rattle.std.proofs.Common.{◌≡◌, ℕ, Bool, true, List, [], ◌∷◌, is_err, Ok, refl, ap, ◌∙◌}
+use Rattle.std.proofs.Common.{◌≡◌, ℕ, Bool, true, List, [], ◌∷◌, is_err, Ok, Err, ap, ◌∙◌}
 use Rattle.refusals.specs.declared.Refusal.{Refusal}
 use Rattle.refusals.specs.declared.Refusal.TheVariants.{Stopped, UsedUp}
 use Rattle.protocol.specs.Voting.{standing_epoch, timeout_epoch, timed_out}
 use Rattle.protocol.specs.declared.answer.Answer.TheVariants.{ForEpoch}
 use Rattle.protocol.specs.declared.card.Card.{Card}
-use Rattle.cards.specs.Faults.{card_refusal}
+use Rattle.cards.specs.Faults.{card_refusal, replied}
 use Rattle.cards.specs.Parts.{of_cards, timeout_part}
 use Rattle.cards.specs.declared.member.Member.{Member}
 use Rattle.cards.specs.declared.size.RackSize.{RackSize}
 use Rattle.rack.specs.Sound.{sound_card}
-use Rattle.protocol.proofs.Asked.{ask_done}
-use Rattle.rack.proofs.Views.{carried, found, sound_found, used_found, written_sizes}
-use Rattle.rack.proofs.Refused.{refused, told_card}
+use Rattle.rack.specs.View.{view}
+use Rattle.rack.proofs.Places.{own_seat, found_there, with_card_alone, alone_answered}
+use Rattle.rack.proofs.Views.{found, sound_found}
+use Rattle.rack.proofs.Refused.{told_card}
 use Rattle.rack.proofs.Sounds.{sound_timed_out}
 use Rattle.rack.proofs.state.Rack.timeout.Goals as goal
 
@@ -22,33 +23,34 @@ checks n i d = (d.stopped, Stopped) ∷ (is_err (standing_epoch (of_cards n) i d
 by_member : {m m' : Member} (d : Card) → m ≡ m' → timeout_part m.size m.number d ≡ timeout_part m'.size m'.number d
 by_member d e = ap (λ (m : Member). timeout_part m.size m.number d) e
 
-pub returns-in_err-epoch : goal.returns-in_err-epoch
-returns-in_err-epoch c =
+pub invariant_of-self : goal.invariant_of-self
+invariant_of-self c =
     let r = c.args.self.now in
     let i = c.args.card in
-    let seat = c.in_ok-seat.seat in
-    let d = seat.card in
-    let f = c.in_err-epoch.field-0.0 in
-    let own = found r i seat c.in_ok-seat.ensures.value in
-    let reply = told_card ForEpoch c.from_residual-in_err-epoch.result f c.from_residual-in_err-epoch.ensures.1 in
-    record { step = λ entries lanes. refused (checks r.size i) (λ e. ForEpoch (timeout_epoch (of_cards r.size) i e)) (timed_out (of_cards r.size) i) r i seat c.timeout.new.card entries (λ _. tt {0}) lanes _ (card_refusal f) reply own (c.in_err-epoch.ensures ∙ by_member d c.member.ensures); sizes = refl }
+    let own = found_there r i c.in_ok-seat.field-0 (found r i c.in_ok-seat.field-0 c.in_ok-seat.ensures.value) in
+    let d = (own_seat r i).card in
+    let before : sound_card d ≡ true = sound_found r i (own_seat r i) own in
+    let after = with_card_alone (checks r.size i) (λ e. ForEpoch (timeout_epoch (of_cards r.size) i e)) (timed_out (of_cards r.size) i) r i own (λ p. sound_timed_out (of_cards r.size) i d before p.1.0) (replied ForEpoch c.timeout.result) c.timeout.new.card (c.timeout.ensures ∙ by_member d c.member-member.ensures) in
+    record { few = after.few; seven = after.seven; fit = after.fit; sound = after.sound }
 
-pub put-requires : goal.put-requires
-put-requires c =
+pub returns-in_err-timeout-clause-step : goal.returns-in_err-timeout-clause-step
+returns-in_err-timeout-clause-step c =
     let r = c.args.self.now in
     let i = c.args.card in
-    let seat = c.in_ok-seat.seat in
-    let d = seat.card in
-    let own = found r i seat c.in_ok-seat.ensures.value in
-    let out = ask_done (checks r.size i d) (ForEpoch (timeout_epoch (of_cards r.size) i d)) (ForEpoch c.in_ok-epoch.epoch) (timed_out (of_cards r.size) i d) d c.timeout.new.card (c.in_ok-epoch.ensures ∙ by_member d c.member.ensures) in
-    let before : sound_card d ≡ true = sound_found r i seat own in
-    (own.is, (ap sound_card out.2 ∙ sound_timed_out (of_cards r.size) i d before out.0.1.0, used_found r i seat own))
+    let own = found_there r i c.in_ok-seat.field-0 (found r i c.in_ok-seat.field-0 c.in_ok-seat.ensures.value) in
+    let d = (own_seat r i).card in
+    let before : sound_card d ≡ true = sound_found r i (own_seat r i) own in
+    let f = c.in_err-timeout.field-0.0 in
+    let e = c.in_err-timeout.ensures ∙ by_member d c.member-member.ensures in
+    let after = with_card_alone (checks r.size i) (λ e. ForEpoch (timeout_epoch (of_cards r.size) i e)) (timed_out (of_cards r.size) i) r i own (λ p. sound_timed_out (of_cards r.size) i d before p.1.0) (Err (card_refusal f)) c.timeout.new.card e in
+    let reply = told_card ForEpoch c.from_residual-in_err-timeout.result f c.from_residual-in_err-timeout.ensures.1 in
+    λ entries lanes. (λ k. (reply k, view after entries (λ _. tt {0}) lanes)) ∙ alone_answered (checks r.size i) (λ e. ForEpoch (timeout_epoch (of_cards r.size) i e)) (timed_out (of_cards r.size) i) r i own (λ p. sound_timed_out (of_cards r.size) i d before p.1.0) (Err (card_refusal f)) c.timeout.new.card e entries (λ _. tt {0}) lanes
 
-pub returns : goal.returns
-returns c =
+pub returns-clause-step : goal.returns-clause-step
+returns-clause-step c =
     let r = c.args.self.now in
     let i = c.args.card in
-    let seat = c.in_ok-seat.seat in
-    let d = seat.card in
-    let own = found r i seat c.in_ok-seat.ensures.value in
-    record { step = λ entries lanes. carried (checks r.size i) (λ e. ForEpoch (timeout_epoch (of_cards r.size) i e)) (timed_out (of_cards r.size) i) r c.put.new.self i seat c.timeout.new.card entries (λ _. tt {0}) lanes (Ok (ForEpoch c.in_ok-epoch.epoch)) own c.put.ensures (c.in_ok-epoch.ensures ∙ by_member d c.member.ensures); sizes = written_sizes r c.put.new.self i _ _ c.put.ensures }
+    let own = found_there r i c.in_ok-seat.field-0 (found r i c.in_ok-seat.field-0 c.in_ok-seat.ensures.value) in
+    let d = (own_seat r i).card in
+    let before : sound_card d ≡ true = sound_found r i (own_seat r i) own in
+    λ entries lanes. alone_answered (checks r.size i) (λ e. ForEpoch (timeout_epoch (of_cards r.size) i e)) (timed_out (of_cards r.size) i) r i own (λ p. sound_timed_out (of_cards r.size) i d before p.1.0) (Ok (ForEpoch c.in_ok-timeout.field-0)) c.timeout.new.card (c.in_ok-timeout.ensures ∙ by_member d c.member-member.ensures) entries (λ _. tt {0}) lanes
