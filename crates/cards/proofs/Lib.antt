@@ -1,3 +1,4 @@
 pub mod LaneViews
+pub mod Largest
 pub mod OwnRow
 pub mod Stays

@@ -1,31 +1,43 @@
 // What a card reads off the rows of all cards.
-ghost use Rattle.std.specs.Prelude.{◌≡◌, take};
+ghost use Rattle.std.specs.Prelude.{◌≡◌};
 ghost use Rattle.protocol.specs.Voting.{largest_vote, is_elected};
 ghost use Rattle.marks.specs.Order.{vote_up_to};
 ghost use Rattle.marks.specs.Rows.{count_between};
-ghost use Rattle.protocol.specs.Rows.{vote_rows};
+ghost use Rattle.protocol.specs.Rows.{vote_of, vote_rows};
 ghost use Rattle.cards.specs.Parts.{of_cards};
 ghost use Rattle.cards.specs.Sizes.{card_count};
 
 use crate::member::Member;
 use marks::Vote;
-use marks::rows::largest;
+use marks::rows::Mark;
 use protocol::{Card, is_majority};
 
 impl Member {
-    // The rows of the rack's cards, of seven.
-    pub(crate) fn in_rack<T>(self, rows: &[T; 7]) -> &[T]
-        ensures { result.now ≡ take (card_count self.size) rows.now }
+    // A card's vote row: its own vote in its own place, a copy elsewhere.
+    fn vote_of(self, card: &Card, place: u8) -> Vote
+        ensures { result ≡ vote_of self.number card.now.vote card.now.peers place }
     {
-        &rows[..self.size.cards() as usize]
+        if place == self.number {
+            card.vote
+        } else {
+            card.peers.row(place).vote
+        }
     }
 
     // The largest of the n vote rows, the card's own among them.
+    // Kept: a row is read when it is its turn, as where rows are counted. Tried by `known_rows` and `largest`: the compiler
+    // then writes all seven rows to memory and copies them before the first is compared, and a timeout takes twice the time.
     pub fn largest_vote(self, card: &Card) -> Vote
         ensures { result ≡ largest_vote (of_cards self.size) self.number card.now }
     {
-        let rows = card.peers.known_rows(self.number, card.vote);
-        largest(card.vote, self.in_rack(&rows))
+        let mut most = card.vote;
+        for before in 0..self.size.cards() {
+            let vote = self.vote_of(card, before + 1);
+            if most.up_to(vote) {
+                most = vote;
+            }
+        }
+        most
     }
 
     // How many of the n vote rows equal the card's vote.

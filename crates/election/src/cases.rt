@@ -25,16 +25,16 @@ pub(crate) fn read(heap: Global, line: &str) -> Result<Option<Case>, AllocError>
     let (Some(newest), Some(accepted)) = (epoch(*e1, *e2), header(*h1, *h2, *h3)) else {
         return Ok(None);
     };
-    let (rows, rest) = rows.as_chunks::<5>();
-    let Some(votes): Option<Vec<Vote>> = rows.iter().map(vote).collect(heap)? else {
-        return Ok(None);
-    };
     let (Ok(cards), Ok(card)) = (u8::try_from(*cards), u8::try_from(*card)) else {
         return Ok(None);
     };
-    if !matches!(cards, 3 | 5 | 7) || votes.len() != cards as usize || !rest.is_empty() {
+    let (rows, rest) = rows.as_chunks::<5>();
+    if !matches!(cards, 3 | 5 | 7) || rows.len() != cards as usize || !rest.is_empty() {
         return Ok(None);
     }
+    let Some(votes): Option<Vec<Vote>> = rows.iter().map(vote).collect(heap)? else {
+        return Ok(None);
+    };
     let place = (card as usize).wrapping_sub(1);
     let Some(own) = votes.get(place).copied() else {
         return Ok(None);

@@ -21,7 +21,7 @@ fn run<F: FnMut(Call) -> io::Result<()>>(
     requires { F.IsAlwaysCallable carry_out }
 {
     for line in lines {
-        let Some(call) = parse_call(rt.alloc(), line)? else {
+        let Some(call) = parse_call(line) else {
             println!(rt; "not a call: {line}")?;
             continue;
         };
@@ -49,8 +49,10 @@ fn print_both(rt: &HostRuntime, left: Reply, right: Reply) -> io::Result<()> {
 }
 
 fn print(rt: &HostRuntime, reply: Reply) -> io::Result<()> {
-    let one = text(rt, reply)?;
-    println!(rt; "{one}")
+    match reply {
+        Ok(answer) => println!(rt; "{answer}"),
+        Err(refusal) => println!(rt; "{refusal}"),
+    }
 }
 
 // Lends bytes of this shape to what is to be done over rings.
@@ -78,7 +80,7 @@ fn run_section(rt: &HostRuntime, section: &str) -> io::Result<()> {
         return Ok(());
     };
     println!(rt; "{first}")?;
-    match parse_desk(rt.alloc(), first)? {
+    match parse_desk(first) {
         Some(Desk::Box) => {
             let mut frames = FrameBox::new();
             run(rt, lines, |call| print(rt, apply(&mut frames, call)))

@@ -2,7 +2,6 @@
 use frames::Frame;
 use lane_calls::{Call, Lane};
 use numerals::number;
-use std::alloc::{AllocError, Global};
 use std::str::SplitWhitespace;
 
 #[derive(Clone, Copy)]
@@ -12,12 +11,20 @@ pub enum Desk {
     Both(usize),
 }
 
-// None if a word is no number.
-fn parse_numbers(
-    heap: Global,
-    words: SplitWhitespace<'_>,
-) -> Result<Option<Vec<i128>>, AllocError> {
-    words.map(number).collect(heap)
+// The most numbers that a line has: a send's lane and frame.
+const MOST: usize = 11;
+
+// The numbers of a line, put into these places, and how many they are; None if a word is no number, or there are too many.
+fn parse_numbers(words: SplitWhitespace<'_>, places: &mut [i128; MOST]) -> Option<usize> {
+    let mut count = 0;
+    for word in words {
+        if count >= MOST {
+            return None;
+        }
+        places[count] = number(word)?;
+        count += 1;
+    }
+    Some(count)
 }
 
 // No card has number 0.
@@ -39,38 +46,34 @@ fn place(n: i128) -> usize {
     usize::try_from(n).unwrap_or(usize::MAX)
 }
 
-pub(crate) fn parse_call(heap: Global, line: &str) -> Result<Option<Call>, AllocError> {
+pub(crate) fn parse_call(line: &str) -> Option<Call> {
     let mut words = line.split_whitespace();
-    let name = words.next();
-    let Some(numbers) = parse_numbers(heap, words)? else {
-        return Ok(None);
-    };
-    Ok(match (name, numbers.as_slice()) {
-        (Some("send"), &[from, to, number, kind, round, leader, count, w1, w2, w3, w4]) => {
+    let name = words.next()?;
+    let mut places = [0; MOST];
+    let count = parse_numbers(words, &mut places)?;
+    match (name, places.get(..count)?) {
+        ("send", &[from, to, number, kind, round, leader, count, w1, w2, w3, w4]) => {
             let frame = Frame::from_numbers([kind, round, leader, count, w1, w2, w3, w4]);
             Some(Call::Send(lane(from, to, number), frame))
         }
-        (Some("drop"), &[from, to, number, k]) => {
-            Some(Call::Drop(lane(from, to, number), place(k)))
-        }
-        (Some("waiting"), &[from, to, number]) => Some(Call::Waiting(lane(from, to, number))),
-        (Some("at"), &[from, to, number, position]) => {
+        ("drop", &[from, to, number, k]) => Some(Call::Drop(lane(from, to, number), place(k))),
+        ("waiting", &[from, to, number]) => Some(Call::Waiting(lane(from, to, number))),
+        ("at", &[from, to, number, position]) => {
             Some(Call::At(lane(from, to, number), place(position)))
         }
         _ => None,
-    })
+    }
 }
 
-pub(crate) fn parse_desk(heap: Global, line: &str) -> Result<Option<Desk>, AllocError> {
+pub(crate) fn parse_desk(line: &str) -> Option<Desk> {
     let mut words = line.split_whitespace();
-    let name = words.next();
-    let Some(numbers) = parse_numbers(heap, words)? else {
-        return Ok(None);
-    };
-    Ok(match (name, numbers.as_slice()) {
-        (Some("box"), []) => Some(Desk::Box),
-        (Some("rings"), &[cards, room]) => Some(Desk::Rings(card(cards), place(room))),
-        (Some("both"), &[room]) => Some(Desk::Both(place(room))),
+    let name = words.next()?;
+    let mut places = [0; MOST];
+    let count = parse_numbers(words, &mut places)?;
+    match (name, places.get(..count)?) {
+        ("box", []) => Some(Desk::Box),
+        ("rings", &[cards, room]) => Some(Desk::Rings(card(cards), place(room))),
+        ("both", &[room]) => Some(Desk::Both(place(room))),
         _ => None,
-    })
+    }
 }

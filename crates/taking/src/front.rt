@@ -5,7 +5,7 @@ ghost use Rattle.protocol.specs.Taking.{is_diff};
 ghost use Rattle.taking.specs.Openings.{Opens, OpensDiff, lane_of};
 
 use crate::diff::OpenedDiff;
-use backplane::{Backplane, Port};
+use backplane::{Backplane, LaneFault, Port};
 use cards::CardFault;
 use frames::{Entry, Frame, Kind};
 
@@ -31,7 +31,7 @@ fn open_diff<B: Backplane>(port: &Port<'_, B>, head: Frame) -> Result<OpenedDiff
 pub(crate) fn open<B: Backplane>(port: &Port<'_, B>) -> Result<Front, CardFault>
     ensures { Opens port.now.lane.from (lane_of port.now) result }
 {
-    let frame = port.frame_at(0).ok_or(CardFault::NothingDue)?;
+    let frame = port.frame_at(0).ok_or(LaneFault::NothingThere)?;
     match frame.kind {
         _ if frame.leader != port.lane.from => Err(CardFault::Malformed),
         Kind::Message => Ok(Front::Message(frame.entry().unwrap())),
